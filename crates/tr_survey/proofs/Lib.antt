@@ -1,4 +1,5 @@
 pub mod BytesLemmas
+pub mod DeclaringLemmas
 pub mod FileNameLemmas
 pub mod HeadLemmas
 pub mod IdentifierLemmas

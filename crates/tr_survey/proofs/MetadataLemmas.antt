@@ -72,21 +72,32 @@ pub named_some : (bytes : List ℕ) (uuid : Option (List ℕ)) → (length bytes
 named_some [] uuid some is = absurd (some refl)
 named_some (b ∷ bytes) uuid some is = ap (named (b ∷ bytes)) is
 
--- the open file is read as metadata up to its end or as far as it counts
-pub read_whole : (file : File) (front : List ℕ) (naming : Naming) → front ≡ take LONGEST_METADATA file.bytes
-    → (length file.bytes < LONGEST_METADATA → file.breaks ≡ false) → naming ≡ naming_by front → naming ≡ naming_in (Some file)
-read_whole file front naming is whole found = found ∙ ap naming_by is ∙ by_test (ltb (length file.bytes) LONGEST_METADATA) refl
+-- what is made of an open file's bytes up to its end or as far as they count
+pub whole_by : {X : Type 0} (file : File) (none : X) (made : List ℕ → X) → (length file.bytes < LONGEST_METADATA → file.breaks ≡ false)
+    → made (take LONGEST_METADATA file.bytes)
+    ≡ cond (ltb (length file.bytes) LONGEST_METADATA && file.breaks) none (made (take LONGEST_METADATA file.bytes))
+whole_by file none made whole = by_test (ltb (length file.bytes) LONGEST_METADATA) refl
   where
     by_test : (test : Bool) → ltb (length file.bytes) LONGEST_METADATA ≡ test
-        → naming_by (take LONGEST_METADATA file.bytes)
-        ≡ cond (ltb (length file.bytes) LONGEST_METADATA && file.breaks) Unreadable (naming_by (take LONGEST_METADATA file.bytes))
+        → made (take LONGEST_METADATA file.bytes)
+        ≡ cond (ltb (length file.bytes) LONGEST_METADATA && file.breaks) none (made (take LONGEST_METADATA file.bytes))
     by_test true e =
-        ap (λ (t : Bool). cond t Unreadable (naming_by (take LONGEST_METADATA file.bytes)))
+        ap (λ (t : Bool). cond t none (made (take LONGEST_METADATA file.bytes)))
         (sym (ap (λ (t : Bool). t && file.breaks) e ∙ whole (ltb-true (length file.bytes) LONGEST_METADATA e)))
     by_test false e =
-        ap (λ (t : Bool). cond t Unreadable (naming_by (take LONGEST_METADATA file.bytes))) (sym (ap (λ (t : Bool). t && file.breaks) e))
+        ap (λ (t : Bool). cond t none (made (take LONGEST_METADATA file.bytes))) (sym (ap (λ (t : Bool). t && file.breaks) e))
+
+-- the same of one that can't be read so far
+pub broken_by : {X : Type 0} (file : File) (none : X) (made : List ℕ → X) → (length file.bytes < LONGEST_METADATA) × (file.breaks ≡ true)
+    → none ≡ cond (ltb (length file.bytes) LONGEST_METADATA && file.breaks) none (made (take LONGEST_METADATA file.bytes))
+broken_by file none made broken =
+    ap (λ (t : Bool). cond t none (made (take LONGEST_METADATA file.bytes)))
+    (sym (ap (λ (t : Bool). t && file.breaks) (lt-ltb _ _ broken.0) ∙ broken.1))
+
+-- it is read as metadata
+pub read_whole : (file : File) (front : List ℕ) (naming : Naming) → front ≡ take LONGEST_METADATA file.bytes
+    → (length file.bytes < LONGEST_METADATA → file.breaks ≡ false) → naming ≡ naming_by front → naming ≡ naming_in (Some file)
+read_whole file front naming is whole found = found ∙ ap naming_by is ∙ whole_by file Unreadable naming_by whole
 
 pub read_broken : (file : File) → (length file.bytes < LONGEST_METADATA) × (file.breaks ≡ true) → Unreadable ≡ naming_in (Some file)
-read_broken file broken =
-    ap (λ (t : Bool). cond t Unreadable (naming_by (take LONGEST_METADATA file.bytes)))
-    (sym (ap (λ (t : Bool). t && file.breaks) (lt-ltb _ _ broken.0) ∙ broken.1))
+read_broken file broken = broken_by file Unreadable naming_by broken

@@ -153,10 +153,10 @@ by_own_text [] uuid is some found = absurd (some refl)
 by_own_text (b ∷ bytes) uuid is some found =
     ap (named (b ∷ bytes)) found ∙ ap (λ (t : Bool). cond t (Named uuid) (Other uuid)) is
 
-named_by_line : (bytes text uuid : List ℕ) → bytes ≡ front ++ (10 ∷ (line_of text ++ (10 ∷ behind))) → bytes ≡ metadata_of uuid → length text ≡ 36
-    → uuid_in (line_of text) ≡ Some uuid → naming_in (Some (file_of bytes false)) ≡ Named uuid
-named_by_line bytes text uuid parts own long found =
-    let short : length bytes ≤ LONGEST_METADATA = omega (
+short_by_line : (bytes text : List ℕ) → bytes ≡ front ++ (10 ∷ (line_of text ++ (10 ∷ behind))) → length text ≡ 36
+    → length bytes ≤ LONGEST_METADATA
+short_by_line bytes text parts long =
+    omega (
       arith,
       ap length parts,
       length-append front (10 ∷ (line_of text ++ (10 ∷ behind))),
@@ -164,7 +164,15 @@ named_by_line bytes text uuid parts own long found =
       length-append text (codes "\";"),
       front_short,
       behind_short,
-    ) in
+    )
+
+pub metadata_are_short : (uuid : List ℕ) → length (metadata_of uuid) ≤ LONGEST_METADATA
+metadata_are_short uuid = short_by_line (metadata_of uuid) (hyphenated_text lower uuid) (metadata_parts uuid) (long_so uuid)
+
+named_by_line : (bytes text uuid : List ℕ) → bytes ≡ front ++ (10 ∷ (line_of text ++ (10 ∷ behind))) → bytes ≡ metadata_of uuid → length text ≡ 36
+    → uuid_in (line_of text) ≡ Some uuid → naming_in (Some (file_of bytes false)) ≡ Named uuid
+named_by_line bytes text uuid parts own long found =
+    let short = short_by_line bytes text parts long in
     let some : length bytes ≡ 0 → ⊥ = λ none. omega (arith, none, ap length parts, length-append front (10 ∷ (line_of text ++ (10 ∷ behind)))) in
     sym (read_whole (file_of bytes false) bytes (naming_by bytes) (sym (take_all LONGEST_METADATA bytes short)) (λ _. refl) refl)
     ∙ by_own_text bytes uuid (ap (is_text_of uuid) own ∙ plain_text uuid) some (uuid_of_line bytes text uuid parts found)

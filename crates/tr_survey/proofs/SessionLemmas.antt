@@ -6,6 +6,7 @@ use Rattle.std.specs.List.{AllByRecursion, fold, zip}
 use Rattle.std.proofs.lemmas.Grind.{common_steps}
 use Rattle.tr_chunk.specs.Audit.{capped_count}
 use Rattle.tr_folders.specs.Tree.{Tree}
+use Rattle.tr_survey.specs.Declaring.{declaring, events_at, trace_of}
 use Rattle.tr_survey.specs.Heads.{deleted_of, head_told, is_next, line_of_wrong, missing_below, wrong_after, wrong_between, wrong_lines, wrong_metadata, wrong_streams}
 use Rattle.tr_survey.specs.Identifiers.{identity_by, of_two, times, uuid_of_packets}
 use Rattle.tr_survey.specs.Lines.{archive_text, deleted_text, no_streams_text, session_text}
@@ -14,7 +15,7 @@ use Rattle.tr_survey.specs.Metadata.{most_named, uuid_named}
 use Rattle.tr_survey.specs.Order.{Numbered}
 use Rattle.tr_survey.specs.Paths.{archives_folder}
 use Rattle.tr_survey.specs.Sessions.{able_told, archives_told, closed_told, counted, ended_told, has_archives, listed_told, name_told, named_told, names_told, passed_told, session_told, streams_and_sums_told, survey_of}
-use Rattle.tr_survey.specs.Streams.{stream_told, streams_told}
+use Rattle.tr_survey.specs.Streams.{TraceState, stream_told, streams_told, trace_state}
 use Rattle.tr_survey.specs.Sums.{lines_asked, no_sums, sums_of}
 use Rattle.tr_survey.specs.Told.{Told, and_then, faults_told, told}
 use Rattle.tr_survey.specs.Whole.{FollowEachOther, HasItsFiles, NumberedFrom, Stands, StandsAlone, StreamFiles, recorded_stream_told, recorded_streams_told, recorded_sums, recorded_text, streams_in}
@@ -94,23 +95,23 @@ none_missing k (s ∷ streams) are =
     ∙ ap (λ (n : ℕ). wrong_streams n streams) more
     ∙ none_missing (k + 1) streams are.2
 
-streams_are : (t : Tree) (folder uuid : List ℕ) (archives : List Numbered) (streams : List StreamFiles) (n : ℕ)
-    → AllByRecursion (HasItsFiles t folder uuid archives) streams
-    → streams_told t folder uuid archives n (streams_in streams) ≡ recorded_streams_told uuid streams n
-streams_are t folder uuid archives [] n have = refl
-streams_are t folder uuid archives (s ∷ streams) n have =
+streams_are : (t : Tree) (folder : List ℕ) (from : TraceState) (archives : List Numbered) (streams : List StreamFiles) (n : ℕ)
+    → AllByRecursion (HasItsFiles t folder from.uuid archives) streams
+    → streams_told t folder from archives n (streams_in streams) ≡ recorded_streams_told from streams n
+streams_are t folder from archives [] n have = refl
+streams_are t folder from archives (s ∷ streams) n have =
     let own = have.0 in
-    let here : stream_told t folder uuid archives n s.0 ≡ recorded_stream_told uuid s.0 s.1 n =
-    ap (λ (l : List Numbered). stream_told t folder uuid l n s.0) (sym own.each) ∙ recorded_stream t folder uuid s.0 s.1 n own.files own.packets in
-    ap (λ (o : Told ℕ). and_then o.text (streams_told t folder uuid archives o.state (streams_in streams))) here
-    ∙ ap (λ (o : Told ℕ). and_then (recorded_stream_told uuid s.0 s.1 n).text o)
-    (streams_are t folder uuid archives streams (recorded_stream_told uuid s.0 s.1 n).state have.1)
+    let here : stream_told t folder from archives n s.0 ≡ recorded_stream_told from s.0 s.1 n =
+    ap (λ (l : List Numbered). stream_told t folder from l n s.0) (sym own.each) ∙ recorded_stream t folder from s.0 s.1 n own.files own.packets in
+    ap (λ (o : Told ℕ). and_then o.text (streams_told t folder from archives o.state (streams_in streams))) here
+    ∙ ap (λ (o : Told ℕ). and_then (recorded_stream_told from s.0 s.1 n).text o)
+    (streams_are t folder from archives streams (recorded_stream_told from s.0 s.1 n).state have.1)
 
-faults_are : (t : Tree) (folder uuid : List ℕ) (archives : List Numbered) (streams : List StreamFiles) (n : ℕ)
-    → AllByRecursion (HasItsFiles t folder uuid archives) streams → (recorded_streams_told uuid streams n).state ≡ n
-faults_are t folder uuid archives [] n have = refl
-faults_are t folder uuid archives (s ∷ streams) n have =
-    faults_are t folder uuid archives streams (recorded_stream_told uuid s.0 s.1 n).state have.1 ∙ no_fault_more uuid s.0 s.1 n have.0.packets
+faults_are : (t : Tree) (folder : List ℕ) (from : TraceState) (archives : List Numbered) (streams : List StreamFiles) (n : ℕ)
+    → AllByRecursion (HasItsFiles t folder from.uuid archives) streams → (recorded_streams_told from streams n).state ≡ n
+faults_are t folder from archives [] n have = refl
+faults_are t folder from archives (s ∷ streams) n have =
+    faults_are t folder from archives streams (recorded_stream_told from s.0 s.1 n).state have.1 ∙ no_fault_more from s.0 s.1 n have.0.packets
 
 -- ---- the session
 
@@ -131,56 +132,68 @@ head_is session uuid a archives streams follow numbered =
     ∙ ap (λ (l : List (List ℕ)). and_then begin (and_then [] (and_then [] (faults_told 0 l)))) none
     ∙ ap (λ (l : List ℕ). told l 0) (append-nil begin)
 
-abbrev body_text : Bool → List ℕ → List Numbered → List StreamFiles → List ℕ
-body_text asked uuid archives streams =
-    (recorded_streams_told uuid streams 0).text ++ lines_asked asked archives (recorded_sums uuid archives streams)
+-- the first archive's metadata declare its events
+first_declares : (uuid : List ℕ) (archives : List Numbered) (a : Numbered) (others : List Numbered) → archives ≡ a ∷ others
+    → declaring uuid archives (map (λ (b : Numbered). Named uuid) archives) ≡ Some a
+first_declares uuid archives a others is =
+    ap (λ (l : List Numbered). declaring uuid l (map (λ (b : Numbered). Named uuid) l)) is
+    ∙ ap (λ (t : Bool). cond t (Some a) (declaring uuid others (map (λ (b : Numbered). Named uuid) others))) (same_uuid uuid)
 
-body_is : (asked : Bool) (t : Tree) (folder uuid : List ℕ) (archives : List Numbered) (streams : List StreamFiles)
-    → AllByRecursion (HasItsFiles t folder uuid archives) streams
-    → streams_and_sums_told asked t folder uuid archives (streams_in streams) 0 ≡ told (body_text asked uuid archives streams) 0
-body_is asked t folder uuid archives streams have =
-    let text = (recorded_streams_told uuid streams 0).text in
-    let lines = lines_asked asked archives (sums_of t folder uuid archives 0 (streams_in streams)) in
-    ap (λ (o : Told ℕ). and_then o.text (told lines o.state)) (streams_are t folder uuid archives streams 0 have)
-    ∙ ap (λ (n : ℕ). told (text ++ lines) n) (faults_are t folder uuid archives streams 0 have)
+abbrev body_text : Bool → TraceState → List Numbered → List StreamFiles → List ℕ
+body_text asked from archives streams =
+    (recorded_streams_told from streams 0).text ++ lines_asked asked archives (recorded_sums from archives streams)
+
+body_is : (asked : Bool) (t : Tree) (folder : List ℕ) (from : TraceState) (archives : List Numbered) (streams : List StreamFiles)
+    → AllByRecursion (HasItsFiles t folder from.uuid archives) streams
+    → streams_and_sums_told asked t folder from archives (streams_in streams) 0 ≡ told (body_text asked from archives streams) 0
+body_is asked t folder from archives streams have =
+    let text = (recorded_streams_told from streams 0).text in
+    let lines = lines_asked asked archives (sums_of t folder from archives 0 (streams_in streams)) in
+    ap (λ (o : Told ℕ). and_then o.text (told lines o.state)) (streams_are t folder from archives streams 0 have)
+    ∙ ap (λ (n : ℕ). told (text ++ lines) n) (faults_are t folder from archives streams 0 have)
     ∙ ap (λ (l : List Sums). told (text ++ lines_asked asked archives l) 0)
-    (streams_add t folder uuid archives streams 0 (replicate (length archives) no_sums) have)
+    (streams_add t folder from archives streams 0 (replicate (length archives) no_sums) have)
 
-session_is : (asked : Bool) (t : Tree) (session folder uuid : List ℕ) (archives : List Numbered) (streams : List StreamFiles)
-    → (s : Stands t folder uuid archives streams)
+session_is : (asked : Bool) (t : Tree) (session folder : List ℕ) (from : TraceState) (archives : List Numbered) (streams : List StreamFiles)
+    → (s : Stands t folder from archives streams)
     → session_told asked t folder 0 session
-    ≡ told (session_text session (Some uuid) (length archives) ++ body_text asked uuid archives streams) 0
-session_is asked t session folder uuid archives streams s =
-    let namings : List Numbered → List Naming = λ l. map (λ (a : Numbered). Named uuid) l in
+    ≡ told (session_text session (Some from.uuid) (length archives) ++ body_text asked from archives streams) 0
+session_is asked t session folder from archives streams s =
+    let namings : List Numbered → List Naming = λ l. map (λ (a : Numbered). Named from.uuid) l in
     let packets = uuid_of_packets t folder archives (streams_in streams) in
-    let named : most_named (namings archives) ≡ Some uuid =
-    ap (λ (l : List Numbered). most_named (namings l)) s.some ∙ named_is uuid s.first s.others in
-    let head : head_told session (OfMetadata uuid) archives (namings archives) (streams_in streams) 0 ≡ told (session_text session (Some uuid) (length archives)) 0 =
-    ap (λ (l : List Numbered). head_told session (OfMetadata uuid) l (namings l) (streams_in streams) 0) s.some
-    ∙ head_is session uuid s.first s.others (streams_in streams) (subst (λ (l : List Numbered). FollowEachOther 0 l) s.some s.follow) s.numbered
-    ∙ ap (λ (l : List Numbered). told (session_text session (Some uuid) (length l)) 0) (sym s.some) in
+    let named : most_named (namings archives) ≡ Some from.uuid =
+    ap (λ (l : List Numbered). most_named (namings l)) s.some ∙ named_is from.uuid s.first s.others in
+    let heads = head_told session (OfMetadata from.uuid) archives (namings archives) (streams_in streams) 0 in
+    let declared : trace_of t folder from.uuid archives (namings archives) ≡ from =
+    ap (λ (o : Option Numbered). trace_state from.uuid (events_at t folder o)) (first_declares from.uuid archives s.first s.others s.some)
+    ∙ ap (trace_state from.uuid) s.declared in
+    let head : head_told session (OfMetadata from.uuid) archives (namings archives) (streams_in streams) 0 ≡ told (session_text session (Some from.uuid) (length archives)) 0 =
+    ap (λ (l : List Numbered). head_told session (OfMetadata from.uuid) l (namings l) (streams_in streams) 0) s.some
+    ∙ head_is session from.uuid s.first s.others (streams_in streams) (subst (λ (l : List Numbered). FollowEachOther 0 l) s.some s.follow) s.numbered
+    ∙ ap (λ (l : List Numbered). told (session_text session (Some from.uuid) (length l)) 0) (sym s.some) in
     ap (λ (b : Bool). cond b (closed_told session 0) (archives_told asked t session folder (archives_of t folder (names_at t folder)) 0)) s.seen
     ∙ ap (λ (l : List Numbered). archives_told asked t session folder l 0) s.archives_are
     ∙ ap (λ (l : List Naming). listed_told asked t session folder archives l (streams_of t folder archives) 0) s.metadata
     ∙ ap (λ (l : List Numbered). listed_told asked t session folder archives (namings archives) l 0) s.streams_are
     ∙ ap (λ (o : Option (List ℕ)). named_told asked t session folder (identity_by o packets) archives (namings archives) (streams_in streams) 0) named
-    ∙ ap (λ (o : Told ℕ). and_then o.text (streams_and_sums_told asked t folder uuid archives (streams_in streams) o.state)) head
-    ∙ ap (λ (o : Told ℕ). and_then (session_text session (Some uuid) (length archives)) o) (body_is asked t folder uuid archives streams s.files)
+    ∙ ap (λ (u : TraceState). and_then heads.text (streams_and_sums_told asked t folder u archives (streams_in streams) heads.state)) declared
+    ∙ ap (λ (o : Told ℕ). and_then o.text (streams_and_sums_told asked t folder from archives (streams_in streams) o.state)) head
+    ∙ ap (λ (o : Told ℕ). and_then (session_text session (Some from.uuid) (length archives)) o) (body_is asked t folder from archives streams s.files)
 
 -- the folder, of which it is the only session
-pub whole_is : (asked : Bool) (t : Tree) (dir session uuid : List ℕ) (archives : List Numbered) (streams : List StreamFiles)
-    → (s : StandsAlone t dir session uuid archives streams)
-    → survey_of asked t dir ≡ told (recorded_text asked session uuid archives streams) (Faults 0)
-whole_is asked t dir session uuid archives streams s =
+pub whole_is : (asked : Bool) (t : Tree) (dir session : List ℕ) (from : TraceState) (archives : List Numbered) (streams : List StreamFiles)
+    → (s : StandsAlone t dir session from archives streams)
+    → survey_of asked t dir ≡ told (recorded_text asked session from archives streams) (Faults 0)
+whole_is asked t dir session from archives streams s =
     let folder = archives_folder dir session in
-    let begin = session_text session (Some uuid) (length archives) in
-    let streams-text = (recorded_streams_told uuid streams 0).text in
-    let lines = lines_asked asked archives (recorded_sums uuid archives streams) in
+    let begin = session_text session (Some from.uuid) (length archives) in
+    let streams-text = (recorded_streams_told from streams 0).text in
+    let lines = lines_asked asked archives (recorded_sums from archives streams) in
     let there : has_archives t dir session ≡ true = ap (λ (b : Bool). b || is_some (t.names folder)) s.stands.seen ∙ s.stands.there in
     let here : name_told asked t dir None session ≡ told (begin ++ (streams-text ++ lines)) (Some 0) =
     ap (λ (b : Bool). cond b (able_told asked t dir None session) (told (passed_told t dir session) None)) s.named
     ∙ ap (λ (b : Bool). cond b (counted (session_told asked t folder 0 session)) (told [] None)) there
-    ∙ ap counted (session_is asked t session folder uuid archives streams s.stands) in
+    ∙ ap counted (session_is asked t session folder from archives streams s.stands) in
     ap (λ (b : Bool). cond b (told [] Unlisted) (ended_told (names_told asked t dir None (names_in_order (names_at t dir))))) s.seen
     ∙ ap (λ (l : List (List ℕ)). ended_told (names_told asked t dir None l)) s.alone
     ∙ ap (λ (o : Told (Option ℕ)). ended_told (and_then o.text (told [] o.state))) here

@@ -6,7 +6,7 @@ use Rattle.tr_survey.specs.Lines.{sums_text}
 use Rattle.tr_survey.specs.Listing.{key_of}
 use Rattle.tr_survey.specs.Order.{Numbered}
 use Rattle.tr_survey.specs.Paths.{file_in}
-use Rattle.tr_survey.specs.Streams.{file_told, place}
+use Rattle.tr_survey.specs.Streams.{TraceState, file_told, place_of}
 use Rattle.tr_survey.specs.Sums.{sums_after_files, sums_lines, with_rises}
 use Rattle.tr_survey.specs.declared.names.Numbered as value
 use Rattle.tr_survey.specs.declared.sums.Sums.{Sums}
@@ -16,20 +16,20 @@ use Rattle.tr_survey.proofs.PrefixLemmas.{from_place}
 -- ---- a stream's files
 
 -- the sums that are done, and those that a stream's files from a place on still come to
-abbrev pub sums_from : Tree → List ℕ → List ℕ → Numbered → Tally → List value.Numbered → List Sums → ℕ → List Sums
-sums_from t folder uuid stream s archives sums i =
-    take i sums ++ sums_after_files t folder uuid stream s (map key_of (drop i archives)) (drop i sums)
+abbrev pub sums_from : Tree → List ℕ → TraceState → Numbered → Tally → List value.Numbered → List Sums → ℕ → List Sums
+sums_from t folder from stream s archives sums i =
+    take i sums ++ sums_after_files t folder from stream s (map key_of (drop i archives)) (drop i sums)
 
-pub sums_step : (t : Tree) (folder uuid : List ℕ) (stream : Numbered) (s after : Tally) (archives : List value.Numbered) (sums : List Sums) (i : ℕ)
+pub sums_step : (t : Tree) (folder : List ℕ) (from : TraceState) (stream : Numbered) (s after : Tally) (archives : List value.Numbered) (sums : List Sums) (i : ℕ)
     (a : value.Numbered) (d y : Sums) → i < length archives → i < length sums → a ≡ get_or archives i a → y ≡ with_rises (get_or sums i d) s after
-    → after ≡ (file_told (place uuid stream.number (key_of a)) s (file_in t folder stream (key_of a))).state
-    → sums_from t folder uuid stream after archives (set sums i y) (i + 1) ≡ sums_from t folder uuid stream s archives sums i
-sums_step t folder uuid stream s after archives sums i a d y within fits is-a is-y is =
+    → after ≡ (file_told (place_of from stream.number (key_of a)) s (file_in t folder stream (key_of a))).state
+    → sums_from t folder from stream after archives (set sums i y) (i + 1) ≡ sums_from t folder from stream s archives sums i
+sums_step t folder from stream s after archives sums i a d y within fits is-a is-y is =
     let x = get_or sums i d in
-    let rest : Tally → List Sums → List Sums = λ u l. sums_after_files t folder uuid stream u (map key_of (drop (i + 1) archives)) l in
-    let here : sums_after_files t folder uuid stream s (map key_of (drop i archives)) (drop i sums) ≡ y ∷ rest after (drop (i + 1) sums) =
-    ap (λ (l : List Numbered). sums_after_files t folder uuid stream s l (drop i sums)) (from_place key_of archives i a within is-a)
-    ∙ ap (sums_after_files t folder uuid stream s (key_of a ∷ map key_of (drop (i + 1) archives))) (drop_more sums i d fits)
+    let rest : Tally → List Sums → List Sums = λ u l. sums_after_files t folder from stream u (map key_of (drop (i + 1) archives)) l in
+    let here : sums_after_files t folder from stream s (map key_of (drop i archives)) (drop i sums) ≡ y ∷ rest after (drop (i + 1) sums) =
+    ap (λ (l : List Numbered). sums_after_files t folder from stream s l (drop i sums)) (from_place key_of archives i a within is-a)
+    ∙ ap (sums_after_files t folder from stream s (key_of a ∷ map key_of (drop (i + 1) archives))) (drop_more sums i d fits)
     ∙ ap (λ (u : Tally). with_rises x s u ∷ rest u (drop (i + 1) sums)) (sym is)
     ∙ ap (λ (z : Sums). z ∷ rest after (drop (i + 1) sums)) (sym is-y) in
     let next : i < i + 1 = omega arith in
@@ -38,10 +38,10 @@ sums_step t folder uuid stream s after archives sums i a d y within fits is-a is
     ∙ append_assoc (take i sums) (y ∷ []) (rest after (drop (i + 1) sums))
     ∙ ap (λ (l : List Sums). take i sums ++ l) (sym here)
 
-pub sums_end : (t : Tree) (folder uuid : List ℕ) (stream : Numbered) (s : Tally) (archives : List value.Numbered) (sums : List Sums) (i : ℕ)
-    → length sums ≤ i → sums_from t folder uuid stream s archives sums i ≡ sums
-sums_end t folder uuid stream s archives sums i past =
-    ap (λ (l : List Sums). take i sums ++ sums_after_files t folder uuid stream s (map key_of (drop i archives)) l) (drop_all i sums past)
+pub sums_end : (t : Tree) (folder : List ℕ) (from : TraceState) (stream : Numbered) (s : Tally) (archives : List value.Numbered) (sums : List Sums) (i : ℕ)
+    → length sums ≤ i → sums_from t folder from stream s archives sums i ≡ sums
+sums_end t folder from stream s archives sums i past =
+    ap (λ (l : List Sums). take i sums ++ sums_after_files t folder from stream s (map key_of (drop i archives)) l) (drop_all i sums past)
     ∙ append-nil (take i sums) ∙ take_all i sums past
 
 -- ---- their lines

@@ -10,7 +10,7 @@ use Rattle.tr_survey.specs.Listing.{key_of}
 use Rattle.tr_survey.specs.Order.{Numbered}
 use Rattle.tr_survey.specs.Prefix.{GoesOn, IsPrefixOut, IsTold}
 use Rattle.tr_survey.specs.Steps.{AreFew, HasGone, IsHeld}
-use Rattle.tr_survey.specs.Streams.{Place, bytes_told, file_told, files_told, left_told, streams_told, unreadable_told}
+use Rattle.tr_survey.specs.Streams.{Place, TraceState, bytes_told, file_told, files_told, left_told, streams_told, unreadable_told}
 use Rattle.tr_survey.specs.Told.{Told, and_then}
 use Rattle.tr_survey.specs.declared.tally.Tally.{Tally}
 use Rattle.tr_survey.specs.declared.names.Numbered as value
@@ -214,13 +214,13 @@ pub first_of_two : (first more whole : List ℕ) (before now : Option (List ℕ)
 first_of_two first more whole before now is front = subst (λ (l : List ℕ). IsPrefixOut l before now) (sym is) (front_longer first more before now front)
 
 -- a stream's files from a place on
-pub files_at : (t : Tree) (folder uuid : List ℕ) (stream : Numbered) (s : Tally) (xs : List value.Numbered) (i : ℕ) (x : value.Numbered) → i < length xs
-    → x ≡ get_or xs i x → files_told t folder uuid stream s (map key_of (drop i xs)) ≡ files_told t folder uuid stream s (key_of x ∷ map key_of (drop (i + 1) xs))
-files_at t folder uuid stream s xs i x within is = ap (files_told t folder uuid stream s) (from_place key_of xs i x within is)
+pub files_at : (t : Tree) (folder : List ℕ) (from : TraceState) (stream : Numbered) (s : Tally) (xs : List value.Numbered) (i : ℕ) (x : value.Numbered) → i < length xs
+    → x ≡ get_or xs i x → files_told t folder from stream s (map key_of (drop i xs)) ≡ files_told t folder from stream s (key_of x ∷ map key_of (drop (i + 1) xs))
+files_at t folder from stream s xs i x within is = ap (files_told t folder from stream s) (from_place key_of xs i x within is)
 
-pub streams_at : (t : Tree) (folder uuid : List ℕ) (archives : List Numbered) (n : ℕ) (xs : List value.Numbered) (i : ℕ) (x : value.Numbered) → i < length xs
-    → x ≡ get_or xs i x → streams_told t folder uuid archives n (map key_of (drop i xs)) ≡ streams_told t folder uuid archives n (key_of x ∷ map key_of (drop (i + 1) xs))
-streams_at t folder uuid archives n xs i x within is = ap (streams_told t folder uuid archives n) (from_place key_of xs i x within is)
+pub streams_at : (t : Tree) (folder : List ℕ) (from : TraceState) (archives : List Numbered) (n : ℕ) (xs : List value.Numbered) (i : ℕ) (x : value.Numbered) → i < length xs
+    → x ≡ get_or xs i x → streams_told t folder from archives n (map key_of (drop i xs)) ≡ streams_told t folder from archives n (key_of x ∷ map key_of (drop (i + 1) xs))
+streams_at t folder from archives n xs i x within is = ap (streams_told t folder from archives n) (from_place key_of xs i x within is)
 
 -- a text, and then faults
 pub more_text : {S : Type 0} (text : List ℕ) (more : Told S) (before mid now : Option (List ℕ)) (state : S) → mid ≡ and_then_bytes before text

@@ -19,7 +19,7 @@ use Rattle.tr_packet.specs.Packets.{Contents, IsPacket, contents, packet_size, p
 use Rattle.tr_record.specs.Records.{Entry}
 use Rattle.tr_survey.specs.Order.{Numbered}
 use Rattle.tr_survey.specs.Paths.{file_in}
-use Rattle.tr_survey.specs.Streams.{Place, are_deleted, before, bytes_told, cause_of, ended_told, fall_told, falls, file_told, files_told, gap_told, lost_by, lost_told, no_tally, packet_told, place, stream_told, tally_after}
+use Rattle.tr_survey.specs.Streams.{Place, TraceState, are_deleted, before, bytes_told, cause_of, ended_told, fall_told, falls, file_told, files_told, gap_told, lost_by, lost_told, no_tally, packet_told, place_of, stream_told, tally_after}
 use Rattle.tr_survey.specs.Told.{Told, and_then}
 use Rattle.tr_survey.specs.Whole.{AreRecorded, HasFiles, LossesStay, Recorded, archives_in, packets_of, packets_told, recorded_stream_told, recorded_told}
 use Rattle.tr_survey.specs.declared.tally.Last.{Last}
@@ -154,24 +154,24 @@ file_is at s ps rest goes = bytes_are (suc (length (packets_text ps))) at s 0 ps
 
 -- ---- a stream
 
-files_are : (t : Tree) (folder uuid : List ℕ) (stream : Numbered) (s : Tally) (files : List Recorded) → HasFiles t folder stream files
-    → Goes uuid stream.number s (packets_of files)
-    → files_told t folder uuid stream s (archives_in files) ≡ recorded_told uuid stream.number s files
-files_are t folder uuid stream s [] has goes = refl
-files_are t folder uuid stream s (r ∷ files) has goes =
-    let at = place uuid stream.number r.0 in
+files_are : (t : Tree) (folder : List ℕ) (from : TraceState) (stream : Numbered) (s : Tally) (files : List Recorded) → HasFiles t folder stream files
+    → Goes from.uuid stream.number s (packets_of files)
+    → files_told t folder from stream s (archives_in files) ≡ recorded_told from stream.number s files
+files_are t folder from stream s [] has goes = refl
+files_are t folder from stream s (r ∷ files) has goes =
+    let at = place_of from stream.number r.0 in
     let here : file_told at s (file_in t folder stream r.0) ≡ packets_told at s r.1 =
     ap (file_told at s) has.0 ∙ file_is at s r.1 (packets_of files) goes in
-    ap (λ (o : Told Tally). and_then o.text (files_told t folder uuid stream o.state (archives_in files))) here
+    ap (λ (o : Told Tally). and_then o.text (files_told t folder from stream o.state (archives_in files))) here
     ∙ ap (λ (o : Told Tally). and_then (packets_told at s r.1).text o)
-    (files_are t folder uuid stream (packets_told at s r.1).state files has.1 (after_packets uuid at s r.1 (packets_of files) goes).goes)
+    (files_are t folder from stream (packets_told at s r.1).state files has.1 (after_packets from.uuid at s r.1 (packets_of files) goes).goes)
 
-faults_stay : (uuid : List ℕ) (stream : ℕ) (s : Tally) (files : List Recorded) → Goes uuid stream s (packets_of files)
-    → (recorded_told uuid stream s files).state.faults ≡ s.faults
-faults_stay uuid stream s [] goes = refl
-faults_stay uuid stream s (r ∷ files) goes =
-    let more = after_packets uuid (place uuid stream r.0) s r.1 (packets_of files) goes in
-    faults_stay uuid stream (packets_told (place uuid stream r.0) s r.1).state files more.goes ∙ more.faults
+faults_stay : (from : TraceState) (stream : ℕ) (s : Tally) (files : List Recorded) → Goes from.uuid stream s (packets_of files)
+    → (recorded_told from stream s files).state.faults ≡ s.faults
+faults_stay from stream s [] goes = refl
+faults_stay from stream s (r ∷ files) goes =
+    let more = after_packets from.uuid (place_of from stream r.0) s r.1 (packets_of files) goes in
+    faults_stay from stream (packets_told (place_of from stream r.0) s r.1).state files more.goes ∙ more.faults
 
 pub begun : (uuid : List ℕ) (stream n : ℕ) (files : List Recorded) → AreRecorded uuid stream files → Goes uuid stream (no_tally n) (packets_of files)
 begun uuid stream n files are = record {
@@ -183,13 +183,13 @@ begun uuid stream n files are = record {
   losses = are.losses;
 }
 
-pub recorded_stream : (t : Tree) (folder uuid : List ℕ) (stream : Numbered) (files : List Recorded) (n : ℕ) → HasFiles t folder stream files
-    → AreRecorded uuid stream.number files
-    → stream_told t folder uuid (archives_in files) n stream ≡ recorded_stream_told uuid stream files n
-recorded_stream t folder uuid stream files n has are =
+pub recorded_stream : (t : Tree) (folder : List ℕ) (from : TraceState) (stream : Numbered) (files : List Recorded) (n : ℕ) → HasFiles t folder stream files
+    → AreRecorded from.uuid stream.number files
+    → stream_told t folder from (archives_in files) n stream ≡ recorded_stream_told from stream files n
+recorded_stream t folder from stream files n has are =
     ap (λ (o : Told Tally). and_then o.text (ended_told stream (are_deleted (archives_in files)) o.state))
-    (files_are t folder uuid stream (no_tally n) files has (begun uuid stream.number n files are))
+    (files_are t folder from stream (no_tally n) files has (begun from.uuid stream.number n files are))
 
-pub no_fault_more : (uuid : List ℕ) (stream : Numbered) (files : List Recorded) (n : ℕ) → AreRecorded uuid stream.number files
-    → (recorded_stream_told uuid stream files n).state ≡ n
-no_fault_more uuid stream files n are = faults_stay uuid stream.number (no_tally n) files (begun uuid stream.number n files are)
+pub no_fault_more : (from : TraceState) (stream : Numbered) (files : List Recorded) (n : ℕ) → AreRecorded from.uuid stream.number files
+    → (recorded_stream_told from stream files n).state ≡ n
+no_fault_more from stream files n are = faults_stay from stream.number (no_tally n) files (begun from.uuid stream.number n files are)

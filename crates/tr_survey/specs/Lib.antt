@@ -1,3 +1,4 @@
+pub mod Declaring
 pub mod Failures
 pub mod Heads
 pub mod Identifiers

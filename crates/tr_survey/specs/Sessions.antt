@@ -1,6 +1,7 @@
 -- The survey of sessions.
 use Rattle.std.specs.Prelude.{ℕ, Bool, ◌&&◌, List, [], ◌∷◌, ◌++◌, codes, map, filter, Option, Some, None, if◌then◌else◌}
 use Rattle.tr_folders.specs.Tree.{Tree}
+use Rattle.tr_survey.specs.Declaring.{trace_of}
 use Rattle.tr_survey.specs.Heads.{head_told}
 use Rattle.tr_survey.specs.Identifiers.{identity_by, judged_by, uuid_of_packets}
 use Rattle.tr_survey.specs.Lines.{closed_text, end_text, passed_text, session_text}
@@ -9,7 +10,7 @@ use Rattle.tr_survey.specs.Metadata.{most_named, naming_in}
 use Rattle.tr_survey.specs.Order.{Numbered}
 use Rattle.tr_survey.specs.Paths.{archives_folder, file_path, path_of}
 use Rattle.tr_survey.specs.Prefix.{IsPrefixOut, IsTold}
-use Rattle.tr_survey.specs.Streams.{streams_told}
+use Rattle.tr_survey.specs.Streams.{TraceState, streams_told}
 use Rattle.tr_survey.specs.Sums.{lines_asked, sums_of}
 use Rattle.tr_survey.specs.Told.{Told, and_faults, and_then, told}
 use Rattle.tr_survey.specs.declared.faults.Surveyed.{Surveyed}
@@ -30,16 +31,17 @@ abbrev pub namings_of : Tree → List ℕ → List Numbered → List Naming
 namings_of t folder = map (naming_of t folder)
 
 -- what is reported of streams, and then of archives, if that is asked for
-abbrev pub streams_and_sums_told : Bool → Tree → List ℕ → List ℕ → List Numbered → List Numbered → ℕ → Told ℕ
-streams_and_sums_told asked t folder uuid archives streams n =
-    and_then (streams_told t folder uuid archives n streams).text
-    (told (lines_asked asked archives (sums_of t folder uuid archives n streams)) (streams_told t folder uuid archives n streams).state)
+abbrev pub streams_and_sums_told : Bool → Tree → List ℕ → TraceState → List Numbered → List Numbered → ℕ → Told ℕ
+streams_and_sums_told asked t folder from archives streams n =
+    and_then (streams_told t folder from archives n streams).text
+    (told (lines_asked asked archives (sums_of t folder from archives n streams)) (streams_told t folder from archives n streams).state)
 
 -- what is reported of a session of this identifier with these archives and streams in a folder, whose metadata name these
 abbrev pub named_told : Bool → Tree → List ℕ → List ℕ → Identity → List Numbered → List Naming → List Numbered → ℕ → Told ℕ
 named_told asked t session folder identity archives namings streams n =
     and_then (head_told session identity archives namings streams n).text
-    (streams_and_sums_told asked t folder (judged_by identity) archives streams (head_told session identity archives namings streams n).state)
+    (streams_and_sums_told asked t folder (trace_of t folder (judged_by identity) archives namings) archives streams
+    (head_told session identity archives namings streams n).state)
 
 -- the identifier of a session with these archives and streams in a folder, whose metadata name these
 abbrev pub identity_of : Tree → List ℕ → List Numbered → List Naming → List Numbered → Identity

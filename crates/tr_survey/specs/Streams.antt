@@ -4,6 +4,7 @@ use Rattle.std.specs.Option.{option_and_then}
 use Rattle.tr_chunk.specs.Audit.{capped_count, packet_cause}
 use Rattle.tr_chunk.specs.declared.audit_fault.AuditCause.{AuditCause}
 use Rattle.tr_chunk.specs.declared.audit_fault.AuditCause.TheVariants.{Packet}
+use Rattle.tr_events.specs.Events.{Event}
 use Rattle.tr_folders.specs.Tree.{File, Tree}
 use Rattle.tr_packet.specs.Decoding.{contents_in, first_fault}
 use Rattle.tr_packet.specs.Order.{last_serial_after}
@@ -19,14 +20,27 @@ use Rattle.tr_survey.specs.declared.losses.Taken.{Taken}
 use Rattle.tr_survey.specs.declared.tally.Last.{Last}
 use Rattle.tr_survey.specs.declared.tally.Tally.{Tally}
 
+-- a trace: its identifier, and the events that are declared of it
+pub record TraceState : Type 0 where
+  pub uuid : List ℕ
+  pub events : List Event
+
+abbrev pub trace_state : List ℕ → List Event → TraceState
+trace_state uuid events = record { uuid = uuid; events = events }
+
 -- where packets are read: the trace and the stream that they are to be of, and the archive
 pub record Place : Type 0 where
   pub uuid : List ℕ
+  pub events : List Event
   pub stream : ℕ
   pub archive : Numbered
 
+abbrev pub place_of : TraceState → ℕ → Numbered → Place
+place_of from stream archive = record { uuid = from.uuid; events = from.events; stream = stream; archive = archive }
+
+-- the same where no event is asked for
 abbrev pub place : List ℕ → ℕ → Numbered → Place
-place uuid stream archive = record { uuid = uuid; stream = stream; archive = archive }
+place uuid stream archive = place_of (trace_state uuid []) stream archive
 
 -- ---- a packet and the one before it
 
@@ -91,7 +105,7 @@ ends_told at last p = lost_text at.stream (discarded last p) ++ where_text last 
 -- between records and up to the end, where these serials were taken before; if they don't fit, between ends
 abbrev pub fitted_told : Place → Option Last → Contents → Taken → Option ℕ → List ℕ
 fitted_told at last p t None = ends_told at last p
-fitted_told at last p t (Some rest) = placed_told at.stream at.archive.number t p.records rest p.head.end
+fitted_told at last p t (Some rest) = placed_told at.events at.stream at.archive.number t p.records rest p.head.end
 
 abbrev pub discarded_told : Place → Option Last → Contents → Option Taken → List ℕ
 discarded_told at last p None = ends_told at last p
@@ -209,11 +223,11 @@ file_told at s (Some file) = bytes_told (suc (length file.bytes)) at s 0 file.by
 -- ---- a stream
 
 -- of its files in the archives of a folder, in order
-abbrev pub files_told : Tree → List ℕ → List ℕ → Numbered → Tally → List Numbered → Told Tally
-files_told t folder uuid stream s [] = told [] s
-files_told t folder uuid stream s (a ∷ archives) =
-    and_then (file_told (place uuid stream.number a) s (file_in t folder stream a)).text
-    (files_told t folder uuid stream (file_told (place uuid stream.number a) s (file_in t folder stream a)).state archives)
+abbrev pub files_told : Tree → List ℕ → TraceState → Numbered → Tally → List Numbered → Told Tally
+files_told t folder from stream s [] = told [] s
+files_told t folder from stream s (a ∷ archives) =
+    and_then (file_told (place_of from stream.number a) s (file_in t folder stream a)).text
+    (files_told t folder from stream (file_told (place_of from stream.number a) s (file_in t folder stream a)).state archives)
 
 -- before its first file, after this number of faults
 abbrev pub no_tally : ℕ → Tally
@@ -244,14 +258,14 @@ abbrev pub ended_told : Numbered → Bool → Tally → Told ℕ
 ended_told stream deleted s = told (stream_line stream s ++ cleared_line stream (unexplained deleted s)) s.faults
 
 -- what is reported of a stream, after this number of faults
-abbrev pub stream_told : Tree → List ℕ → List ℕ → List Numbered → ℕ → Numbered → Told ℕ
-stream_told t folder uuid archives n stream =
-    and_then (files_told t folder uuid stream (no_tally n) archives).text
-    (ended_told stream (are_deleted archives) (files_told t folder uuid stream (no_tally n) archives).state)
+abbrev pub stream_told : Tree → List ℕ → TraceState → List Numbered → ℕ → Numbered → Told ℕ
+stream_told t folder from archives n stream =
+    and_then (files_told t folder from stream (no_tally n) archives).text
+    (ended_told stream (are_deleted archives) (files_told t folder from stream (no_tally n) archives).state)
 
 -- of all streams
-abbrev pub streams_told : Tree → List ℕ → List ℕ → List Numbered → ℕ → List Numbered → Told ℕ
-streams_told t folder uuid archives n [] = told [] n
-streams_told t folder uuid archives n (s ∷ streams) =
-    and_then (stream_told t folder uuid archives n s).text
-    (streams_told t folder uuid archives (stream_told t folder uuid archives n s).state streams)
+abbrev pub streams_told : Tree → List ℕ → TraceState → List Numbered → ℕ → List Numbered → Told ℕ
+streams_told t folder from archives n [] = told [] n
+streams_told t folder from archives n (s ∷ streams) =
+    and_then (stream_told t folder from archives n s).text
+    (streams_told t folder from archives (stream_told t folder from archives n s).state streams)

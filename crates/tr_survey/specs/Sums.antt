@@ -6,7 +6,7 @@ use Rattle.tr_folders.specs.Tree.{Tree}
 use Rattle.tr_survey.specs.Lines.{sums_text}
 use Rattle.tr_survey.specs.Order.{Numbered}
 use Rattle.tr_survey.specs.Paths.{file_in}
-use Rattle.tr_survey.specs.Streams.{file_told, lost_by, no_tally, place, stream_told}
+use Rattle.tr_survey.specs.Streams.{TraceState, file_told, lost_by, no_tally, place_of, stream_told}
 use Rattle.tr_survey.specs.declared.sums.Sums.{Sums}
 use Rattle.tr_survey.specs.declared.tally.Tally.{Tally}
 
@@ -28,22 +28,22 @@ with_rises s before after = record {
 }
 
 -- the sums of archives of a folder, after a stream's files in them, each with the stream's counts before that file
-abbrev pub sums_after_files : Tree → List ℕ → List ℕ → Numbered → Tally → List Numbered → List Sums → List Sums
-sums_after_files t folder uuid stream s archives [] = []
-sums_after_files t folder uuid stream s [] (x ∷ sums) = x ∷ sums
-sums_after_files t folder uuid stream s (a ∷ archives) (x ∷ sums) =
-    with_rises x s (file_told (place uuid stream.number a) s (file_in t folder stream a)).state
-    ∷ sums_after_files t folder uuid stream (file_told (place uuid stream.number a) s (file_in t folder stream a)).state archives sums
+abbrev pub sums_after_files : Tree → List ℕ → TraceState → Numbered → Tally → List Numbered → List Sums → List Sums
+sums_after_files t folder from stream s archives [] = []
+sums_after_files t folder from stream s [] (x ∷ sums) = x ∷ sums
+sums_after_files t folder from stream s (a ∷ archives) (x ∷ sums) =
+    with_rises x s (file_told (place_of from stream.number a) s (file_in t folder stream a)).state
+    ∷ sums_after_files t folder from stream (file_told (place_of from stream.number a) s (file_in t folder stream a)).state archives sums
 
 -- those after all streams
-abbrev pub sums_after_streams : Tree → List ℕ → List ℕ → List Numbered → ℕ → List Numbered → List Sums → List Sums
-sums_after_streams t folder uuid archives n [] sums = sums
-sums_after_streams t folder uuid archives n (s ∷ streams) sums =
-    sums_after_streams t folder uuid archives (stream_told t folder uuid archives n s).state streams
-    (sums_after_files t folder uuid s (no_tally n) archives sums)
+abbrev pub sums_after_streams : Tree → List ℕ → TraceState → List Numbered → ℕ → List Numbered → List Sums → List Sums
+sums_after_streams t folder from archives n [] sums = sums
+sums_after_streams t folder from archives n (s ∷ streams) sums =
+    sums_after_streams t folder from archives (stream_told t folder from archives n s).state streams
+    (sums_after_files t folder from s (no_tally n) archives sums)
 
-abbrev pub sums_of : Tree → List ℕ → List ℕ → List Numbered → ℕ → List Numbered → List Sums
-sums_of t folder uuid archives n streams = sums_after_streams t folder uuid archives n streams (replicate (length archives) no_sums)
+abbrev pub sums_of : Tree → List ℕ → TraceState → List Numbered → ℕ → List Numbered → List Sums
+sums_of t folder from archives n streams = sums_after_streams t folder from archives n streams (replicate (length archives) no_sums)
 
 -- a line for each archive
 abbrev pub sums_lines : List Numbered → List Sums → List ℕ

@@ -6,13 +6,14 @@ use Rattle.tr_chunk.specs.Files.{packets_text}
 use Rattle.tr_folders.specs.Kept.{file_of}
 use Rattle.tr_folders.specs.Tree.{Tree}
 use Rattle.tr_packet.specs.Packets.{Contents}
+use Rattle.tr_survey.specs.Declaring.{events_at}
 use Rattle.tr_survey.specs.Heads.{is_next}
 use Rattle.tr_survey.specs.Lines.{session_text}
 use Rattle.tr_survey.specs.Listing.{archives_of, names_at, names_in_order, streams_of}
 use Rattle.tr_survey.specs.Order.{Numbered}
 use Rattle.tr_survey.specs.Paths.{archives_folder, file_in}
 use Rattle.tr_survey.specs.Sessions.{namings_of}
-use Rattle.tr_survey.specs.Streams.{Place, are_deleted, ended_told, gap_told, lost_told, no_tally, place, tally_after}
+use Rattle.tr_survey.specs.Streams.{Place, TraceState, are_deleted, ended_told, gap_told, lost_told, no_tally, place_of, tally_after}
 use Rattle.tr_survey.specs.Sums.{lines_asked, no_sums, with_rises}
 use Rattle.tr_survey.specs.Told.{Told, and_then, told}
 use Rattle.tr_survey.specs.declared.naming.Naming.TheVariants.{Named}
@@ -49,21 +50,21 @@ abbrev pub packets_told : Place → Tally → List Contents → Told Tally
 packets_told at s [] = told [] s
 packets_told at s (p ∷ ps) = and_then (gap_told at s.last p ++ lost_told at s.last p) (packets_told at (tally_after at s p) ps)
 
-abbrev pub recorded_told : List ℕ → ℕ → Tally → List Recorded → Told Tally
-recorded_told uuid stream s [] = told [] s
-recorded_told uuid stream s (r ∷ files) =
-    and_then (packets_told (place uuid stream r.0) s r.1).text
-    (recorded_told uuid stream (packets_told (place uuid stream r.0) s r.1).state files)
+abbrev pub recorded_told : TraceState → ℕ → Tally → List Recorded → Told Tally
+recorded_told from stream s [] = told [] s
+recorded_told from stream s (r ∷ files) =
+    and_then (packets_told (place_of from stream r.0) s r.1).text
+    (recorded_told from stream (packets_told (place_of from stream r.0) s r.1).state files)
 
 -- the archives
 abbrev pub archives_in : List Recorded → List Numbered
 archives_in files = map (λ (r : Recorded). r.0) files
 
 -- what is reported of a stream with these files
-abbrev pub recorded_stream_told : List ℕ → Numbered → List Recorded → ℕ → Told ℕ
-recorded_stream_told uuid stream files n =
-    and_then (recorded_told uuid stream.number (no_tally n) files).text
-    (ended_told stream (are_deleted (archives_in files)) (recorded_told uuid stream.number (no_tally n) files).state)
+abbrev pub recorded_stream_told : TraceState → Numbered → List Recorded → ℕ → Told ℕ
+recorded_stream_told from stream files n =
+    and_then (recorded_told from stream.number (no_tally n) files).text
+    (ended_told stream (are_deleted (archives_in files)) (recorded_told from stream.number (no_tally n) files).state)
 
 -- ---- a session
 
@@ -75,10 +76,10 @@ abbrev pub streams_in : List StreamFiles → List Numbered
 streams_in files = map (λ (s : StreamFiles). s.0) files
 
 -- what is reported of streams, after this number of faults
-abbrev pub recorded_streams_told : List ℕ → List StreamFiles → ℕ → Told ℕ
-recorded_streams_told uuid [] n = told [] n
-recorded_streams_told uuid (s ∷ streams) n =
-    and_then (recorded_stream_told uuid s.0 s.1 n).text (recorded_streams_told uuid streams (recorded_stream_told uuid s.0 s.1 n).state)
+abbrev pub recorded_streams_told : TraceState → List StreamFiles → ℕ → Told ℕ
+recorded_streams_told from [] n = told [] n
+recorded_streams_told from (s ∷ streams) n =
+    and_then (recorded_stream_told from s.0 s.1 n).text (recorded_streams_told from streams (recorded_stream_told from s.0 s.1 n).state)
 
 -- archives are numbered from this number on, and each begins when the one before it ends
 abbrev pub FollowEachOther : ℕ → List Numbered → Type 0
@@ -97,9 +98,9 @@ pub record HasItsFiles (t : Tree) (folder uuid : List ℕ) (archives : List Numb
   pub files : HasFiles t folder s.0 s.1
   pub packets : AreRecorded uuid s.0.number s.1
 
--- what a recorder writes of a session is in a folder: archives from number 0 on, each with the metadata of the trace, and
--- streams from number 0 on, each with its files; nothing is missing, hidden, or there beside them
-pub record Stands (t : Tree) (folder uuid : List ℕ) (archives : List Numbered) (streams : List StreamFiles) : Type 0 where
+-- what a recorder writes of a session is in a folder: archives from number 0 on, each with the metadata of the trace, the
+-- first one's with its events, and streams from number 0 on, each with its files; nothing is missing, hidden, or there beside them
+pub record Stands (t : Tree) (folder : List ℕ) (from : TraceState) (archives : List Numbered) (streams : List StreamFiles) : Type 0 where
   pub seen : t.is_hidden folder ≡ false
   pub there : is_some (t.names folder) ≡ true
   pub archives_are : archives_of t folder (names_at t folder) ≡ archives
@@ -107,39 +108,40 @@ pub record Stands (t : Tree) (folder uuid : List ℕ) (archives : List Numbered)
   pub others : List Numbered
   pub some : archives ≡ first ∷ others
   pub follow : FollowEachOther 0 archives
-  pub metadata : namings_of t folder archives ≡ map (λ (a : Numbered). Named uuid) archives
+  pub metadata : namings_of t folder archives ≡ map (λ (a : Numbered). Named from.uuid) archives
+  pub declared : events_at t folder (Some first) ≡ from.events
   pub streams_are : streams_of t folder archives ≡ streams_in streams
   pub numbered : NumberedFrom 0 (streams_in streams)
-  pub files : AllByRecursion (HasItsFiles t folder uuid archives) streams
+  pub files : AllByRecursion (HasItsFiles t folder from.uuid archives) streams
 
 -- the sums of archives after a stream's files in them, each with the stream's counts before it
-abbrev pub sums_with_files : List ℕ → ℕ → Tally → List Recorded → List Sums → List Sums
-sums_with_files uuid stream s files [] = []
-sums_with_files uuid stream s [] (x ∷ sums) = x ∷ sums
-sums_with_files uuid stream s (r ∷ files) (x ∷ sums) =
-    with_rises x s (packets_told (place uuid stream r.0) s r.1).state
-    ∷ sums_with_files uuid stream (packets_told (place uuid stream r.0) s r.1).state files sums
+abbrev pub sums_with_files : TraceState → ℕ → Tally → List Recorded → List Sums → List Sums
+sums_with_files from stream s files [] = []
+sums_with_files from stream s [] (x ∷ sums) = x ∷ sums
+sums_with_files from stream s (r ∷ files) (x ∷ sums) =
+    with_rises x s (packets_told (place_of from stream r.0) s r.1).state
+    ∷ sums_with_files from stream (packets_told (place_of from stream r.0) s r.1).state files sums
 
 -- those after all streams
-abbrev pub sums_with_streams : List ℕ → ℕ → List StreamFiles → List Sums → List Sums
-sums_with_streams uuid n [] sums = sums
-sums_with_streams uuid n (s ∷ streams) sums =
-    sums_with_streams uuid (recorded_stream_told uuid s.0 s.1 n).state streams (sums_with_files uuid s.0.number (no_tally n) s.1 sums)
+abbrev pub sums_with_streams : TraceState → ℕ → List StreamFiles → List Sums → List Sums
+sums_with_streams from n [] sums = sums
+sums_with_streams from n (s ∷ streams) sums =
+    sums_with_streams from (recorded_stream_told from s.0 s.1 n).state streams (sums_with_files from s.0.number (no_tally n) s.1 sums)
 
-abbrev pub recorded_sums : List ℕ → List Numbered → List StreamFiles → List Sums
-recorded_sums uuid archives streams = sums_with_streams uuid 0 streams (replicate (length archives) no_sums)
+abbrev pub recorded_sums : TraceState → List Numbered → List StreamFiles → List Sums
+recorded_sums from archives streams = sums_with_streams from 0 streams (replicate (length archives) no_sums)
 
 -- what is reported of it: its archives, and where numbers are absent and what was lost in each stream, with its counts; then
 -- each archive, if that is asked for
-abbrev pub recorded_text : Bool → List ℕ → List ℕ → List Numbered → List StreamFiles → List ℕ
-recorded_text asked session uuid archives streams =
-    session_text session (Some uuid) (length archives)
-    ++ ((recorded_streams_told uuid streams 0).text
-    ++ (lines_asked asked archives (recorded_sums uuid archives streams) ++ codes "whole\n"))
+abbrev pub recorded_text : Bool → List ℕ → TraceState → List Numbered → List StreamFiles → List ℕ
+recorded_text asked session from archives streams =
+    session_text session (Some from.uuid) (length archives)
+    ++ ((recorded_streams_told from streams 0).text
+    ++ (lines_asked asked archives (recorded_sums from archives streams) ++ codes "whole\n"))
 
 -- it is below a folder, as its only session
-pub record StandsAlone (t : Tree) (dir session uuid : List ℕ) (archives : List Numbered) (streams : List StreamFiles) : Type 0 where
+pub record StandsAlone (t : Tree) (dir session : List ℕ) (from : TraceState) (archives : List Numbered) (streams : List StreamFiles) : Type 0 where
   pub seen : t.is_hidden dir ≡ false
   pub alone : names_in_order (names_at t dir) ≡ session ∷ []
   pub named : is_name session ≡ true
-  pub stands : Stands t (archives_folder dir session) uuid archives streams
+  pub stands : Stands t (archives_folder dir session) from archives streams

@@ -8,8 +8,9 @@ ghost use Rattle.tr_survey.specs.Failures.{reads_after, writes_after};
 ghost use Rattle.tr_survey.specs.Listing.{key_of};
 ghost use Rattle.tr_survey.specs.Prefix.{IsPrefixOut, IsTold};
 ghost use Rattle.tr_survey.specs.Steps.{IsBad, IsHeld, IsStep};
-ghost use Rattle.tr_survey.specs.Streams.{bytes_told, fault_told, file_told, left_told, no_file_told, place, unreadable_told};
+ghost use Rattle.tr_survey.specs.Streams.{bytes_told, fault_told, file_told, left_told, no_file_told, place_of, unreadable_told, TraceState};
 
+use crate::declaring::Trace;
 use crate::faults::SurveyFault;
 use crate::lines::{cause_text, file_fault_line, packet_fault_line};
 use crate::names::Numbered;
@@ -21,7 +22,6 @@ use tr_chunk::AuditCause;
 use tr_folders::{Folders, MOST_BYTES, ReadFault};
 use tr_packet::{PacketFault, decode_packet};
 use tr_record::ByteSink;
-use uuid::Uuid;
 
 /// What came of the bytes at the front of what is there.
 pub(crate) enum Step {
@@ -43,10 +43,10 @@ fn tell_cause<K: ByteSink>(
     offset: u64,
     cause: AuditCause,
 ) -> Result<(), SurveyFault>
-    ensures ok { OnOk result ((uuid : List ℕ)
-        → IsTold (fault_told (place uuid stream (key_of archive.now)) tally.old offset cause) (K.taken sink.old) (K.taken sink.new) tally.new) }
-    ensures err { OnErr result ((uuid : List ℕ)
-        → IsPrefixOut (fault_told (place uuid stream (key_of archive.now)) tally.old offset cause).text (K.taken sink.old) (K.taken sink.new)) }
+    ensures ok { OnOk result ((from : TraceState)
+        → IsTold (fault_told (place_of from stream (key_of archive.now)) tally.old offset cause) (K.taken sink.old) (K.taken sink.new) tally.new) }
+    ensures err { OnErr result ((from : TraceState)
+        → IsPrefixOut (fault_told (place_of from stream (key_of archive.now)) tally.old offset cause).text (K.taken sink.old) (K.taken sink.new)) }
     ensures writes { K.failures sink.new ≡ writes_after result (K.failures sink.old) }
     ensures reads { (n : ℕ) → reads_after result n ≡ n }
 {
@@ -63,10 +63,10 @@ pub(crate) fn tell_unreadable<K: ByteSink>(
     archive: &Numbered,
     tally: &mut Tally,
 ) -> Result<(), SurveyFault>
-    ensures ok { OnOk result ((uuid : List ℕ)
-        → IsTold (unreadable_told (place uuid stream (key_of archive.now)) tally.old) (K.taken sink.old) (K.taken sink.new) tally.new) }
-    ensures err { OnErr result ((uuid : List ℕ)
-        → IsPrefixOut (unreadable_told (place uuid stream (key_of archive.now)) tally.old).text (K.taken sink.old) (K.taken sink.new)) }
+    ensures ok { OnOk result ((from : TraceState)
+        → IsTold (unreadable_told (place_of from stream (key_of archive.now)) tally.old) (K.taken sink.old) (K.taken sink.new) tally.new) }
+    ensures err { OnErr result ((from : TraceState)
+        → IsPrefixOut (unreadable_told (place_of from stream (key_of archive.now)) tally.old).text (K.taken sink.old) (K.taken sink.new)) }
     ensures writes { K.failures sink.new ≡ writes_after result (K.failures sink.old) }
     ensures reads { (n : ℕ) → reads_after result n ≡ n }
 {
@@ -82,10 +82,10 @@ pub(crate) fn tell_no_file<K: ByteSink>(
     archive: &Numbered,
     tally: &mut Tally,
 ) -> Result<(), SurveyFault>
-    ensures ok { OnOk result ((uuid : List ℕ)
-        → IsTold (no_file_told (place uuid stream (key_of archive.now)) tally.old) (K.taken sink.old) (K.taken sink.new) tally.new) }
-    ensures err { OnErr result ((uuid : List ℕ)
-        → IsPrefixOut (no_file_told (place uuid stream (key_of archive.now)) tally.old).text (K.taken sink.old) (K.taken sink.new)) }
+    ensures ok { OnOk result ((from : TraceState)
+        → IsTold (no_file_told (place_of from stream (key_of archive.now)) tally.old) (K.taken sink.old) (K.taken sink.new) tally.new) }
+    ensures err { OnErr result ((from : TraceState)
+        → IsPrefixOut (no_file_told (place_of from stream (key_of archive.now)) tally.old).text (K.taken sink.old) (K.taken sink.new)) }
     ensures writes { K.failures sink.new ≡ writes_after result (K.failures sink.old) }
     ensures reads { (n : ℕ) → reads_after result n ≡ n }
 {
@@ -103,10 +103,10 @@ fn tell_left<K: ByteSink>(
     offset: u64,
     held: &[u8],
 ) -> Result<(), SurveyFault>
-    ensures ok { OnOk result ((uuid : List ℕ)
-        → IsTold (left_told (place uuid stream (key_of archive.now)) tally.old offset held.now) (K.taken sink.old) (K.taken sink.new) tally.new) }
-    ensures err { OnErr result ((uuid : List ℕ)
-        → IsPrefixOut (left_told (place uuid stream (key_of archive.now)) tally.old offset held.now).text (K.taken sink.old) (K.taken sink.new)) }
+    ensures ok { OnOk result ((from : TraceState)
+        → IsTold (left_told (place_of from stream (key_of archive.now)) tally.old offset held.now) (K.taken sink.old) (K.taken sink.new) tally.new) }
+    ensures err { OnErr result ((from : TraceState)
+        → IsPrefixOut (left_told (place_of from stream (key_of archive.now)) tally.old offset held.now).text (K.taken sink.old) (K.taken sink.new)) }
     ensures writes { K.failures sink.new ≡ writes_after result (K.failures sink.old) }
     ensures reads { (n : ℕ) → reads_after result n ≡ n }
 {
@@ -134,10 +134,10 @@ fn tell_bad<K: ByteSink>(
     offset: u64,
     fault: PacketFault,
 ) -> Result<Step, SurveyFault>
-    ensures ok { IfOk result (λ step. (uuid : List ℕ) → IsBad (place uuid stream (key_of archive.now)) tally.old offset fault step
+    ensures ok { IfOk result (λ step. (from : TraceState) → IsBad (place_of from stream (key_of archive.now)) tally.old offset fault step
         (K.taken sink.old) (K.taken sink.new) tally.new) }
-    ensures err { OnErr result ((uuid : List ℕ) → (fault ≢ Short)
-        × IsPrefixOut (fault_told (place uuid stream (key_of archive.now)) tally.old offset (cause.Packet fault)).text
+    ensures err { OnErr result ((from : TraceState) → (fault ≢ Short)
+        × IsPrefixOut (fault_told (place_of from stream (key_of archive.now)) tally.old offset (cause.Packet fault)).text
         (K.taken sink.old) (K.taken sink.new)) }
     ensures writes { K.failures sink.new ≡ writes_after result (K.failures sink.old) }
     ensures reads { (n : ℕ) → reads_after result n ≡ n }
@@ -156,17 +156,17 @@ fn tell_bad<K: ByteSink>(
 fn tell_front<K: ByteSink>(
     alloc: Global,
     sink: &mut K,
-    uuid: &Uuid,
+    trace: &Trace,
     stream: u64,
     archive: &Numbered,
     tally: &mut Tally,
     offset: u64,
     bytes: &[u8],
 ) -> Result<Step, SurveyFault>
-    ensures ok { IfOk result (λ step. IsStep (place uuid.now stream (key_of archive.now)) tally.old offset bytes.now step
+    ensures ok { IfOk result (λ step. IsStep (place_of trace.now stream (key_of archive.now)) tally.old offset bytes.now step
         (K.taken sink.old) (K.taken sink.new) tally.new) }
     ensures err { OnErr result ((n : ℕ) (rest : List ℕ) (breaks : Bool)
-        → IsPrefixOut (bytes_told (suc n) (place uuid.now stream (key_of archive.now)) tally.old offset (bytes.now ++ rest) breaks).text
+        → IsPrefixOut (bytes_told (suc n) (place_of trace.now stream (key_of archive.now)) tally.old offset (bytes.now ++ rest) breaks).text
         (K.taken sink.old) (K.taken sink.new)) }
     ensures writes { K.failures sink.new ≡ writes_after result (K.failures sink.old) }
     ensures reads { (n : ℕ) → reads_after result n ≡ n }
@@ -175,11 +175,11 @@ fn tell_front<K: ByteSink>(
         Ok(front) => front,
         Err(fault) => return tell_bad(alloc, sink, stream, archive, tally, offset, fault),
     };
-    if let Some(cause) = cause_of(uuid, stream, tally.before(), &packet) {
+    if let Some(cause) = cause_of(trace.uuid(), stream, tally.before(), &packet) {
         tell_cause(alloc, sink, stream, archive, tally, offset, cause)?;
         return Ok(Step::Stopped);
     }
-    let lines = packet_told(alloc, stream, archive, tally, offset, &packet)?;
+    let lines = packet_told(alloc, trace, stream, archive, tally, offset, &packet)?;
     put_line(sink, lines.as_str())?;
     *tally = tally.after(archive, &packet, size);
     Ok(Step::Packet(size))
@@ -196,17 +196,17 @@ fn bytes_of(alloc: Global, bytes: &[u8]) -> Result<Vec<u8>, AllocError>
 fn tell_held<K: ByteSink>(
     alloc: Global,
     sink: &mut K,
-    uuid: &Uuid,
+    trace: &Trace,
     stream: u64,
     archive: &Numbered,
     tally: &mut Tally,
     offset: &mut u64,
     held: &mut Vec<u8>,
 ) -> Result<bool, SurveyFault>
-    ensures ok { IfOk result (λ stopped. IsHeld (place uuid.now stream (key_of archive.now)) tally.old offset.old held.old.items stopped
+    ensures ok { IfOk result (λ stopped. IsHeld (place_of trace.now stream (key_of archive.now)) tally.old offset.old held.old.items stopped
         (K.taken sink.old) (K.taken sink.new) tally.new offset.new held.new.items) }
     ensures err { OnErr result ((n : ℕ) (rest : List ℕ) (breaks : Bool) → length (held.old.items ++ rest) < n
-        → IsPrefixOut (bytes_told n (place uuid.now stream (key_of archive.now)) tally.old offset.old (held.old.items ++ rest) breaks).text
+        → IsPrefixOut (bytes_told n (place_of trace.now stream (key_of archive.now)) tally.old offset.old (held.old.items ++ rest) breaks).text
         (K.taken sink.old) (K.taken sink.new)) }
     ensures writes { K.failures sink.new ≡ writes_after result (K.failures sink.old) }
     ensures reads { (n : ℕ) → reads_after result n ≡ n }
@@ -214,7 +214,7 @@ fn tell_held<K: ByteSink>(
     let mut at = 0;
     'packets: loop {
         let (_, bytes) = held.split_at(at);
-        match tell_front(alloc, sink, uuid, stream, archive, tally, *offset, bytes)? {
+        match tell_front(alloc, sink, trace, stream, archive, tally, *offset, bytes)? {
             Step::Packet(size) => {
                 at += size;
                 *offset = offset.saturating_add(size as u64);
@@ -233,7 +233,7 @@ pub(crate) fn tell_file<F: Folders, K: ByteSink>(
     alloc: Global,
     folders: &mut F,
     sink: &mut K,
-    uuid: &Uuid,
+    trace: &Trace,
     stream: u64,
     archive: &Numbered,
     tally: &mut Tally,
@@ -241,9 +241,9 @@ pub(crate) fn tell_file<F: Folders, K: ByteSink>(
 ) -> Result<(), SurveyFault>
     requires { 0 < length buffer.old }
     ensures ok { OnOk result ((file : File) → F.left folders.old ≡ Some file
-        → IsTold (file_told (place uuid.now stream (key_of archive.now)) tally.old (Some file)) (K.taken sink.old) (K.taken sink.new) tally.new) }
+        → IsTold (file_told (place_of trace.now stream (key_of archive.now)) tally.old (Some file)) (K.taken sink.old) (K.taken sink.new) tally.new) }
     ensures err { OnErr result ((file : File) → F.left folders.old ≡ Some file
-        → IsPrefixOut (file_told (place uuid.now stream (key_of archive.now)) tally.old (Some file)).text (K.taken sink.old) (K.taken sink.new)) }
+        → IsPrefixOut (file_told (place_of trace.now stream (key_of archive.now)) tally.old (Some file)).text (K.taken sink.old) (K.taken sink.new)) }
     ensures tree { F.tree folders.new ≡ F.tree folders.old }
     ensures reads { F.failures folders.new ≡ reads_after result (F.failures folders.old) }
     ensures writes { K.failures sink.new ≡ writes_after result (K.failures sink.old) }
@@ -260,7 +260,7 @@ pub(crate) fn tell_file<F: Folders, K: ByteSink>(
                 let stopped = tell_held(
                     alloc,
                     sink,
-                    uuid,
+                    trace,
                     stream,
                     archive,
                     tally,

@@ -10,11 +10,12 @@ ghost use Rattle.tr_folders.specs.Kept.{file_of};
 ghost use Rattle.tr_folders.specs.Tree.{Tree};
 ghost use Rattle.tr_packet.specs.Metadata.{metadata_of};
 ghost use Rattle.tr_metadata.specs.Metadata.{metadata_with};
+ghost use Rattle.tr_survey.specs.Declaring.{events_in};
 ghost use Rattle.tr_survey.specs.Metadata.{IsShort, naming_in};
 ghost use Rattle.tr_survey.specs.Names.{archive_number, of_parts, stream_named};
 ghost use Rattle.tr_survey.specs.Order.{Numbered};
 ghost use Rattle.tr_survey.specs.Sessions.{survey_of};
-ghost use Rattle.tr_survey.specs.Streams.{stream_told};
+ghost use Rattle.tr_survey.specs.Streams.{TraceState, stream_told};
 ghost use Rattle.tr_survey.specs.Told.{told};
 ghost use Rattle.tr_survey.specs.Whole.{AreRecorded, HasFiles, Recorded, StandsAlone, StreamFiles, archives_in, recorded_stream_told, recorded_text};
 ghost use Rattle.tr_survey.specs.declared.faults.Surveyed.TheVariants.{Faults};
@@ -35,29 +36,31 @@ pub fn an_archive_is_named_for_its_number()
         → archive_number (archive_name_text begin end offset id) ≡ Some id }
 {}
 
-/// The metadata of a trace are read as naming its identifier, also with declared events, if they aren't longer than what is
-/// looked at. Does nothing.
+/// The metadata of a trace are read as naming its identifier, also with declared events, and as declaring these, if they aren't
+/// longer than what is looked at. Does nothing.
 pub fn metadata_name_their_trace()
     ensures plain { (uuid : List ℕ) → length uuid ≡ 16 → All (λ b. b < 256) uuid
         → naming_in (Some (file_of (metadata_of uuid) false)) ≡ Named uuid }
     ensures typed { (d : Declarations) (uuid : List ℕ) → AreDeclared d → length uuid ≡ 16 → All (λ b. b < 256) uuid
         → IsShort d uuid → naming_in (Some (file_of (metadata_with d uuid) false)) ≡ Named uuid }
+    ensures declared { (d : Declarations) (uuid : List ℕ) → AreDeclared d → IsShort d uuid
+        → events_in (Some (file_of (metadata_with d uuid) false)) ≡ d.events }
 {}
 
 /// A stream's files have no fault if its audit passes their packets, and the counts of discarded records don't fall:
 /// what is reported of the stream is where numbers are absent, what was lost, and its counts. Does nothing.
 pub fn a_recorded_stream_has_no_fault()
-    ensures told { (t : Tree) (folder uuid : List ℕ) (stream : Numbered) (files : List Recorded) (n : ℕ) → HasFiles t folder stream files
-        → AreRecorded uuid stream.number files
-        → stream_told t folder uuid (archives_in files) n stream ≡ recorded_stream_told uuid stream files n }
-    ensures none { (uuid : List ℕ) (stream : Numbered) (files : List Recorded) (n : ℕ) → AreRecorded uuid stream.number files
-        → (recorded_stream_told uuid stream files n).state ≡ n }
+    ensures told { (t : Tree) (folder : List ℕ) (from : TraceState) (stream : Numbered) (files : List Recorded) (n : ℕ)
+        → HasFiles t folder stream files → AreRecorded from.uuid stream.number files
+        → stream_told t folder from (archives_in files) n stream ≡ recorded_stream_told from stream files n }
+    ensures none { (from : TraceState) (stream : Numbered) (files : List Recorded) (n : ℕ) → AreRecorded from.uuid stream.number files
+        → (recorded_stream_told from stream files n).state ≡ n }
 {}
 
 /// A session that is in a folder as a recorder writes it, and is the only one there, is whole, and the survey says just its
 /// archives, its streams, and what each of them lost. Does nothing.
 pub fn a_recorded_session_is_whole()
-    ensures { (asked : Bool) (t : Tree) (dir session uuid : List ℕ) (archives : List Numbered) (streams : List StreamFiles)
-        → StandsAlone t dir session uuid archives streams
-        → survey_of asked t dir ≡ told (recorded_text asked session uuid archives streams) (Faults 0) }
+    ensures { (asked : Bool) (t : Tree) (dir session : List ℕ) (from : TraceState) (archives : List Numbered) (streams : List StreamFiles)
+        → StandsAlone t dir session from archives streams
+        → survey_of asked t dir ≡ told (recorded_text asked session from archives streams) (Faults 0) }
 {}

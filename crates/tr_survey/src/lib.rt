@@ -3,9 +3,9 @@
 //!
 //! The text is a function of what is there (`survey_of`), and so is the number of faults, one for each line that begins with
 //! `fault`. By the definitions: `Heads` of archives as a whole, `Streams` of what is found packet by packet, `Losses` of the
-//! records between which others were discarded, `Identifiers` of the session's identifier, `Sums` of what each archive adds.
-//! What is judged of a packet (`Tally`, `cause_of`, `discarded`, `unplaced`) is public, so that another reading of the files,
-//! as a picture, judges by the same rules.
+//! records between which others were discarded, `Declaring` of the names that these have, `Identifiers` of the session's
+//! identifier, `Sums` of what each archive adds. What is judged of a packet (`Tally`, `cause_of`, `discarded`, `unplaced`) is
+//! public, so that another reading of the files, as a picture, judges by the same rules.
 //!
 //! A folder `archives` without an archive is a session with `uuid none archives 0`, and no fault.
 //!
@@ -28,10 +28,10 @@
 //!   (`survey`: `err` (`HasToldPrefix`), `tells`).
 //! - It answers `TooMuch` if and only if the folders failed, and `Write` if and only if the output did
 //!   (`survey`: `reads`, `writes`).
-//! - The names that the recorder gives to archives and files are read as what they say, and so is the identifier in the
-//!   metadata that it writes, if that isn't longer than what is looked at (`IsShort`: it isn't without declared events)
-//!   (`laws::a_file_is_named_for_its_stream`, `an_archive_is_named_for_its_number`; `metadata_name_their_trace`: `plain`,
-//!   `typed`).
+//! - The names that the recorder gives to archives and files are read as what they say, and so are the identifier and the
+//!   events in the metadata that it writes, if that isn't longer than what is looked at (`IsShort`: it isn't without declared
+//!   events) (`laws::a_file_is_named_for_its_stream`, `an_archive_is_named_for_its_number`; `metadata_name_their_trace`:
+//!   `plain`, `typed`, `declared`).
 //! - Of a stream whose files hold packets which its audit passes, with counts of discarded records that don't fall, no fault is
 //!   reported, but just where numbers are absent, what was lost, and its counts. A session that is below the folder as the
 //!   recorder writes it, with nothing missing and nothing beside it (`StandsAlone`), is `whole`
@@ -55,6 +55,7 @@
 //! tr_recorded proves that tr_export writes a session this way.
 #![tactic(auto)]
 
+mod declaring;
 mod faults;
 mod files;
 mod heads;
@@ -67,6 +68,7 @@ mod names;
 mod naming;
 mod packets;
 mod paths;
+mod places;
 mod sessions;
 mod streams;
 mod sums;

@@ -1,14 +1,16 @@
 //! What is reported at a packet.
 
-ghost use Rattle.std.specs.Prelude.{◌≡◌, ℕ, List, IfOk};
+ghost use Rattle.std.specs.Prelude.{◌≡◌, IfOk};
 ghost use Rattle.std.specs.String.{string_bytes};
 ghost use Rattle.tr_survey.specs.Lines.{between_text, before_text};
 ghost use Rattle.tr_survey.specs.Listing.{key_of};
-ghost use Rattle.tr_survey.specs.Streams.{ends_told, fall_told, gap_told, lost_told, packet_told, place, where_text};
+ghost use Rattle.tr_survey.specs.Streams.{ends_told, fall_told, gap_told, lost_told, packet_told, place_of, where_text, TraceState};
 
+use crate::declaring::Trace;
 use crate::lines::{gap_text, lost_text, packet_fault_line};
-use crate::losses::{placed_told, unplaced};
+use crate::losses::unplaced;
 use crate::names::Numbered;
+use crate::places::placed_told;
 use crate::tally::{Last, Tally, absent_before, discarded, falls, next_number, taken_before};
 use std::alloc::{AllocError, Global};
 use tr_packet::PacketView;
@@ -40,7 +42,7 @@ fn gap_told(
     last: Option<Last>,
     packet: &PacketView<'_>,
 ) -> Result<String, AllocError>
-    ensures { IfOk result (λ s. (uuid : List ℕ) → string_bytes s ≡ gap_told (place uuid stream (key_of archive.now)) last packet.now) }
+    ensures { IfOk result (λ s. (from : TraceState) → string_bytes s ≡ gap_told (place_of from stream (key_of archive.now)) last packet.now) }
 {
     let head = packet.head();
     let count = absent_before(last, head.seq);
@@ -61,7 +63,7 @@ fn ends_told(
     last: Option<Last>,
     packet: &PacketView<'_>,
 ) -> Result<String, AllocError>
-    ensures { IfOk result (λ s. (uuid : List ℕ) → string_bytes s ≡ ends_told (place uuid stream (key_of archive.now)) last packet.now) }
+    ensures { IfOk result (λ s. (from : TraceState) → string_bytes s ≡ ends_told (place_of from stream (key_of archive.now)) last packet.now) }
 {
     let mut line = lost_text(alloc, stream, discarded(last, packet))?;
     let place = where_text(alloc, last, archive.number, packet.head().end.get())?;
@@ -72,12 +74,13 @@ fn ends_told(
 /// The lines of records that were discarded since the packet before; empty if none were.
 fn lost_told(
     alloc: Global,
+    trace: &Trace,
     stream: u64,
     archive: &Numbered,
     last: Option<Last>,
     packet: &PacketView<'_>,
 ) -> Result<String, AllocError>
-    ensures { IfOk result (λ s. (uuid : List ℕ) → string_bytes s ≡ lost_told (place uuid stream (key_of archive.now)) last packet.now) }
+    ensures { IfOk result (λ s. string_bytes s ≡ lost_told (place_of trace.now stream (key_of archive.now)) last packet.now) }
 {
     let count = discarded(last, packet);
     if count == 0 {
@@ -88,7 +91,15 @@ fn lost_told(
     };
     match unplaced(count, taken.next, packet) {
         None => ends_told(alloc, stream, archive, last, packet),
-        Some(rest) => placed_told(alloc, stream, archive.number, taken, packet, rest),
+        Some(rest) => placed_told(
+            alloc,
+            &trace.events,
+            stream,
+            archive.number,
+            taken,
+            packet,
+            rest,
+        ),
     }
 }
 
@@ -101,8 +112,8 @@ fn fall_told(
     offset: u64,
     packet: &PacketView<'_>,
 ) -> Result<String, AllocError>
-    ensures { IfOk result (λ s. (uuid : List ℕ)
-        → string_bytes s ≡ fall_told (place uuid stream (key_of archive.now)) last offset packet.now) }
+    ensures { IfOk result (λ s. (from : TraceState)
+        → string_bytes s ≡ fall_told (place_of from stream (key_of archive.now)) last offset packet.now) }
 {
     if !falls(last, packet) {
         return Ok(String::new(alloc));
@@ -113,21 +124,22 @@ fn fall_told(
 /// What is reported at a packet.
 pub(crate) fn packet_told(
     alloc: Global,
+    trace: &Trace,
     stream: u64,
     archive: &Numbered,
     tally: &Tally,
     offset: u64,
     packet: &PacketView<'_>,
 ) -> Result<String, AllocError>
-    ensures { IfOk result (λ s. (uuid : List ℕ)
-        → string_bytes s ≡ packet_told (place uuid stream (key_of archive.now)) tally.now offset packet.now) }
+    ensures { IfOk result (λ s. string_bytes s
+        ≡ packet_told (place_of trace.now stream (key_of archive.now)) tally.now offset packet.now) }
 {
     if tally.is_broken {
         return Ok(String::new(alloc));
     }
     let last = tally.last;
     let mut lines = gap_told(alloc, stream, archive, last, packet)?;
-    let lost = lost_told(alloc, stream, archive, last, packet)?;
+    let lost = lost_told(alloc, trace, stream, archive, last, packet)?;
     lines.push_str(lost.as_str())?;
     let fall = fall_told(alloc, stream, archive, last, offset, packet)?;
     lines.push_str(fall.as_str())?;

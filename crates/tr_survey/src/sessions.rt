@@ -9,6 +9,7 @@ ghost use Rattle.tr_survey.specs.Prefix.{IsPrefixOut, IsTold};
 ghost use Rattle.tr_survey.specs.Sessions.{archives_told, closed_told, identity_of, named_told, naming_of, namings_of, streams_and_sums_told};
 ghost use Rattle.tr_metadata.specs.declared.metadata.TheConstants.{LONGEST_METADATA};
 
+use crate::declaring::{Trace, trace_of};
 use crate::faults::SurveyFault;
 use crate::heads::{deleted_of, wrong_lines};
 use crate::identifiers::{Identity, uuid_of_packets};
@@ -23,7 +24,6 @@ use crate::writing::{put_faults, put_line};
 use std::alloc::Global;
 use tr_folders::Folders;
 use tr_record::ByteSink;
-use uuid::Uuid;
 
 /// What the metadata of an archive of a folder name.
 pub fn naming_of<F: Folders>(
@@ -109,7 +109,7 @@ fn tell_streams_and_sums<F: Folders, K: ByteSink>(
     alloc: Global,
     folders: &mut F,
     sink: &mut K,
-    uuid: &Uuid,
+    trace: &Trace,
     folder: &str,
     archives: &[Numbered],
     streams: &[Numbered],
@@ -119,10 +119,10 @@ fn tell_streams_and_sums<F: Folders, K: ByteSink>(
 ) -> Result<u64, SurveyFault>
     requires { length buffer.old ≡ LONGEST_METADATA }
     ensures ok { IfOk result (λ n. (t : Tree) → F.tree folders.old ≡ Some t
-        → IsTold (streams_and_sums_told asked t folder.now uuid.now (map key_of archives.now) (map key_of streams.now) faults)
+        → IsTold (streams_and_sums_told asked t folder.now trace.now (map key_of archives.now) (map key_of streams.now) faults)
         (K.taken sink.old) (K.taken sink.new) n) }
     ensures err { OnErr result ((t : Tree) → F.tree folders.old ≡ Some t
-        → IsPrefixOut (streams_and_sums_told asked t folder.now uuid.now (map key_of archives.now) (map key_of streams.now) faults).text
+        → IsPrefixOut (streams_and_sums_told asked t folder.now trace.now (map key_of archives.now) (map key_of streams.now) faults).text
         (K.taken sink.old) (K.taken sink.new)) }
     ensures tree { F.tree folders.new ≡ F.tree folders.old }
     ensures reads { F.failures folders.new ≡ reads_after result (F.failures folders.old) }
@@ -132,7 +132,7 @@ fn tell_streams_and_sums<F: Folders, K: ByteSink>(
     let mut sums = vec![in alloc; Sums::new(); archives.len()]?;
     let sums = sums.as_mut_slice();
     let count = tell_streams(
-        alloc, folders, sink, uuid, folder, archives, streams, sums, faults, buffer,
+        alloc, folders, sink, trace, folder, archives, streams, sums, faults, buffer,
     )?;
     put_sums_asked(alloc, sink, archives, sums, asked)?;
     Ok(count)
@@ -195,8 +195,9 @@ fn tell_named<F: Folders, K: ByteSink>(
         alloc, sink, session, identity, archives, namings, streams, faults,
     )?;
     let uuid = identity.judged_by();
+    let trace = trace_of(alloc, folders, folder, uuid, archives, namings, buffer)?;
     tell_streams_and_sums(
-        alloc, folders, sink, &uuid, folder, archives, streams, asked, count, buffer,
+        alloc, folders, sink, &trace, folder, archives, streams, asked, count, buffer,
     )
 }
 

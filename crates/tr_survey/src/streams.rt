@@ -7,9 +7,10 @@ ghost use Rattle.tr_survey.specs.Failures.{reads_after, writes_after};
 ghost use Rattle.tr_survey.specs.Listing.{key_of};
 ghost use Rattle.tr_survey.specs.Paths.{file_in};
 ghost use Rattle.tr_survey.specs.Prefix.{IsPrefixOut, IsTold};
-ghost use Rattle.tr_survey.specs.Streams.{are_deleted, ended_told, file_told, files_told, no_tally, place, span_text, stream_told, streams_told};
+ghost use Rattle.tr_survey.specs.Streams.{are_deleted, ended_told, file_told, files_told, no_tally, place_of, span_text, stream_told, streams_told};
 ghost use Rattle.tr_survey.specs.Sums.{sums_after_files, sums_after_streams};
 
+use crate::declaring::Trace;
 use crate::faults::SurveyFault;
 use crate::files::{tell_file, tell_no_file, tell_unreadable};
 use crate::lines::{cleared_line, counts_text, last_text, stream_line};
@@ -21,14 +22,13 @@ use crate::writing::put_line;
 use std::alloc::{AllocError, Global};
 use tr_folders::{Folders, ReadFault};
 use tr_record::ByteSink;
-use uuid::Uuid;
 
 /// Reports a stream's file in an archive of a folder.
 fn tell_archive<F: Folders, K: ByteSink>(
     alloc: Global,
     folders: &mut F,
     sink: &mut K,
-    uuid: &Uuid,
+    trace: &Trace,
     folder: &str,
     archive: &Numbered,
     stream: &Numbered,
@@ -37,10 +37,10 @@ fn tell_archive<F: Folders, K: ByteSink>(
 ) -> Result<(), SurveyFault>
     requires { 0 < length buffer.old }
     ensures ok { OnOk result ((t : Tree) → F.tree folders.old ≡ Some t
-        → IsTold (file_told (place uuid.now stream.now.number (key_of archive.now)) tally.old
+        → IsTold (file_told (place_of trace.now stream.now.number (key_of archive.now)) tally.old
         (file_in t folder.now (key_of stream.now) (key_of archive.now))) (K.taken sink.old) (K.taken sink.new) tally.new) }
     ensures err { OnErr result ((t : Tree) → F.tree folders.old ≡ Some t
-        → IsPrefixOut (file_told (place uuid.now stream.now.number (key_of archive.now)) tally.old
+        → IsPrefixOut (file_told (place_of trace.now stream.now.number (key_of archive.now)) tally.old
         (file_in t folder.now (key_of stream.now) (key_of archive.now))).text (K.taken sink.old) (K.taken sink.new)) }
     ensures tree { F.tree folders.new ≡ F.tree folders.old }
     ensures reads { F.failures folders.new ≡ reads_after result (F.failures folders.old) }
@@ -53,7 +53,7 @@ fn tell_archive<F: Folders, K: ByteSink>(
             alloc,
             folders,
             sink,
-            uuid,
+            trace,
             stream.number,
             archive,
             tally,
@@ -72,7 +72,7 @@ fn tell_files<F: Folders, K: ByteSink>(
     alloc: Global,
     folders: &mut F,
     sink: &mut K,
-    uuid: &Uuid,
+    trace: &Trace,
     folder: &str,
     archives: &[Numbered],
     stream: &Numbered,
@@ -83,13 +83,13 @@ fn tell_files<F: Folders, K: ByteSink>(
     requires room { 0 < length buffer.old }
     requires sums { length sums.old ≡ length archives.now }
     ensures sums { OnOk result ((t : Tree) → F.tree folders.old ≡ Some t
-        → sums.new ≡ sums_after_files t folder.now uuid.now (key_of stream.now) tally.old (map key_of archives.now) sums.old) }
+        → sums.new ≡ sums_after_files t folder.now trace.now (key_of stream.now) tally.old (map key_of archives.now) sums.old) }
     ensures len { length sums.new ≡ length sums.old }
     ensures ok { OnOk result ((t : Tree) → F.tree folders.old ≡ Some t
-        → IsTold (files_told t folder.now uuid.now (key_of stream.now) tally.old (map key_of archives.now))
+        → IsTold (files_told t folder.now trace.now (key_of stream.now) tally.old (map key_of archives.now))
         (K.taken sink.old) (K.taken sink.new) tally.new) }
     ensures err { OnErr result ((t : Tree) → F.tree folders.old ≡ Some t
-        → IsPrefixOut (files_told t folder.now uuid.now (key_of stream.now) tally.old (map key_of archives.now)).text
+        → IsPrefixOut (files_told t folder.now trace.now (key_of stream.now) tally.old (map key_of archives.now)).text
         (K.taken sink.old) (K.taken sink.new)) }
     ensures tree { F.tree folders.new ≡ F.tree folders.old }
     ensures reads { F.failures folders.new ≡ reads_after result (F.failures folders.old) }
@@ -102,7 +102,7 @@ fn tell_files<F: Folders, K: ByteSink>(
             alloc,
             folders,
             sink,
-            uuid,
+            trace,
             folder,
             &archives[at],
             stream,
@@ -160,7 +160,7 @@ fn tell_stream<F: Folders, K: ByteSink>(
     alloc: Global,
     folders: &mut F,
     sink: &mut K,
-    uuid: &Uuid,
+    trace: &Trace,
     folder: &str,
     archives: &[Numbered],
     stream: &Numbered,
@@ -171,13 +171,13 @@ fn tell_stream<F: Folders, K: ByteSink>(
     requires room { 0 < length buffer.old }
     requires sums { length sums.old ≡ length archives.now }
     ensures sums { OnOk result ((t : Tree) → F.tree folders.old ≡ Some t
-        → sums.new ≡ sums_after_files t folder.now uuid.now (key_of stream.now) (no_tally faults) (map key_of archives.now) sums.old) }
+        → sums.new ≡ sums_after_files t folder.now trace.now (key_of stream.now) (no_tally faults) (map key_of archives.now) sums.old) }
     ensures len { length sums.new ≡ length sums.old }
     ensures ok { IfOk result (λ n. (t : Tree) → F.tree folders.old ≡ Some t
-        → IsTold (stream_told t folder.now uuid.now (map key_of archives.now) faults (key_of stream.now))
+        → IsTold (stream_told t folder.now trace.now (map key_of archives.now) faults (key_of stream.now))
         (K.taken sink.old) (K.taken sink.new) n) }
     ensures err { OnErr result ((t : Tree) → F.tree folders.old ≡ Some t
-        → IsPrefixOut (stream_told t folder.now uuid.now (map key_of archives.now) faults (key_of stream.now)).text
+        → IsPrefixOut (stream_told t folder.now trace.now (map key_of archives.now) faults (key_of stream.now)).text
         (K.taken sink.old) (K.taken sink.new)) }
     ensures tree { F.tree folders.new ≡ F.tree folders.old }
     ensures reads { F.failures folders.new ≡ reads_after result (F.failures folders.old) }
@@ -186,7 +186,7 @@ fn tell_stream<F: Folders, K: ByteSink>(
 {
     let mut tally = Tally::new(faults);
     tell_files(
-        alloc, folders, sink, uuid, folder, archives, stream, &mut tally, sums, buffer,
+        alloc, folders, sink, trace, folder, archives, stream, &mut tally, sums, buffer,
     )?;
     let lines = end_lines(alloc, stream, are_deleted(archives), &tally)?;
     put_line(sink, lines.as_str())?;
@@ -198,7 +198,7 @@ pub(crate) fn tell_streams<F: Folders, K: ByteSink>(
     alloc: Global,
     folders: &mut F,
     sink: &mut K,
-    uuid: &Uuid,
+    trace: &Trace,
     folder: &str,
     archives: &[Numbered],
     streams: &[Numbered],
@@ -209,13 +209,13 @@ pub(crate) fn tell_streams<F: Folders, K: ByteSink>(
     requires room { 0 < length buffer.old }
     requires sums { length sums.old ≡ length archives.now }
     ensures sums { OnOk result ((t : Tree) → F.tree folders.old ≡ Some t
-        → sums.new ≡ sums_after_streams t folder.now uuid.now (map key_of archives.now) faults (map key_of streams.now) sums.old) }
+        → sums.new ≡ sums_after_streams t folder.now trace.now (map key_of archives.now) faults (map key_of streams.now) sums.old) }
     ensures len { length sums.new ≡ length sums.old }
     ensures ok { IfOk result (λ n. (t : Tree) → F.tree folders.old ≡ Some t
-        → IsTold (streams_told t folder.now uuid.now (map key_of archives.now) faults (map key_of streams.now))
+        → IsTold (streams_told t folder.now trace.now (map key_of archives.now) faults (map key_of streams.now))
         (K.taken sink.old) (K.taken sink.new) n) }
     ensures err { OnErr result ((t : Tree) → F.tree folders.old ≡ Some t
-        → IsPrefixOut (streams_told t folder.now uuid.now (map key_of archives.now) faults (map key_of streams.now)).text
+        → IsPrefixOut (streams_told t folder.now trace.now (map key_of archives.now) faults (map key_of streams.now)).text
         (K.taken sink.old) (K.taken sink.new)) }
     ensures tree { F.tree folders.new ≡ F.tree folders.old }
     ensures reads { F.failures folders.new ≡ reads_after result (F.failures folders.old) }
@@ -225,7 +225,7 @@ pub(crate) fn tell_streams<F: Folders, K: ByteSink>(
     let mut count = faults;
     for stream in streams {
         count = tell_stream(
-            alloc, folders, sink, uuid, folder, archives, stream, sums, count, buffer,
+            alloc, folders, sink, trace, folder, archives, stream, sums, count, buffer,
         )?;
     }
     Ok(count)

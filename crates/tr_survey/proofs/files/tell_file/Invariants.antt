@@ -3,7 +3,7 @@ use Rattle.tr_folders.specs.Tree.{File}
 use Rattle.tr_folders.specs.declared.folders.TheConstants.{MOST_BYTES}
 use Rattle.tr_survey.specs.Listing.{key_of}
 use Rattle.tr_survey.specs.Steps.{AreFew}
-use Rattle.tr_survey.specs.Streams.{file_told, place}
+use Rattle.tr_survey.specs.Streams.{file_told, place_of}
 use Rattle.tr_survey.proofs.TellLemmas.{ReadSoFar}
 use Rattle.tr_survey.proofs.files.tell_file.Given as goal
 
@@ -17,6 +17,6 @@ invariant-pieces g l = record {
   writes : g.K.ByteSink.failures l.sink ≡ g.K.ByteSink.failures l.initial.sink;
   few : AreFew l.held.items;
   so_far : (file : File) → g.F.Folders.left l.initial.folders ≡ Some file
-      → ReadSoFar (file_told (place l.uuid l.stream (key_of l.archive)) l.initial.tally (Some file)) (place l.uuid l.stream (key_of l.archive)) file.breaks
+      → ReadSoFar (file_told (place_of l.trace l.stream (key_of l.archive)) l.initial.tally (Some file)) (place_of l.trace l.stream (key_of l.archive)) file.breaks
       (g.K.ByteSink.taken l.initial.sink) (g.K.ByteSink.taken l.sink) (g.F.Folders.left l.folders) l.tally l.offset l.held.items;
 }

@@ -3,7 +3,7 @@ use Rattle.std.proofs.lemmas.Grind.{common_steps}
 use Rattle.std.proofs.lemmas.List.{length-drop}
 use Rattle.tr_survey.specs.Listing.{key_of}
 use Rattle.tr_survey.specs.Steps.{AreFew, HasGone, IsStep}
-use Rattle.tr_survey.specs.Streams.{place}
+use Rattle.tr_survey.specs.Streams.{place_of}
 use Rattle.tr_survey.specs.declared.files.Step.{Step}
 use Rattle.tr_survey.specs.declared.files.Step.TheVariants.{Packet, Stopped}
 use Rattle.tr_survey.specs.declared.tally.Tally.{Tally}
@@ -21,7 +21,7 @@ packets-init g c = record {
 
 pub returns-in_err-size-clause-err : goal.returns-in_err-size-clause-err
 returns-in_err-size-clause-err g c =
-    let at = place c.args.uuid.now c.args.stream (key_of c.args.archive.now) in
+    let at = place_of c.args.trace.now c.args.stream (key_of c.args.archive.now) in
     let held = c.args.held.now.items in
     let bytes : c.split_at.result.1.now ≡ drop c.packets.at held = c.split_at.ensures.back ∙ ap (drop c.packets.at) c.deref.ensures.value in
     at_err c.from_residual.result (λ n rest breaks enough.
@@ -33,7 +33,7 @@ returns-in_err-size-clause-err g c =
 
 pub packets-preserved : goal.packets-preserved
 packets-preserved g c =
-    let at = place c.args.uuid.now c.args.stream (key_of c.args.archive.now) in
+    let at = place_of c.args.trace.now c.args.stream (key_of c.args.archive.now) in
     let held = c.args.held.now.items in
     let i = c.packets.at in
     let size = c.in-Packet.size in
@@ -54,7 +54,7 @@ packets-preserved g c =
 
 pub returns-in-Stopped-clause-ok : goal.returns-in-Stopped-clause-ok
 returns-in-Stopped-clause-ok g c n rest breaks enough =
-    let at = place c.args.uuid.now c.args.stream (key_of c.args.archive.now) in
+    let at = place_of c.args.trace.now c.args.stream (key_of c.args.archive.now) in
     let held = c.args.held.now.items in
     let i = c.packets.at in
     let bytes : c.split_at.result.1.now ≡ drop i held = c.split_at.ensures.back ∙ ap (drop i) c.deref.ensures.value in
@@ -67,7 +67,7 @@ returns-in-Stopped-clause-ok g c n rest breaks enough =
 
 pub returns-in_err-held-clause-err : goal.returns-in_err-held-clause-err
 returns-in_err-held-clause-err g c =
-    let at = place c.args.uuid.now c.args.stream (key_of c.args.archive.now) in
+    let at = place_of c.args.trace.now c.args.stream (key_of c.args.archive.now) in
     let held = c.args.held.now.items in
     let i = c.packets.at in
     let came : AreFew c.split_at.result.1.now × (g.K.ByteSink.taken c.tell_front.new.sink ≡ g.K.ByteSink.taken c.packets.sink) × (c.tell_front.new.tally ≡ c.packets.tally) =
@@ -79,7 +79,7 @@ returns-in_err-held-clause-err g c =
 
 pub returns-clause-ok : goal.returns-clause-ok
 returns-clause-ok g c =
-    let at = place c.args.uuid.now c.args.stream (key_of c.args.archive.now) in
+    let at = place_of c.args.trace.now c.args.stream (key_of c.args.archive.now) in
     let held = c.args.held.now.items in
     let i = c.packets.at in
     let bytes : c.split_at.result.1.now ≡ drop i held = c.split_at.ensures.back ∙ ap (drop i) c.deref.ensures.value in

@@ -6,7 +6,7 @@ use Rattle.tr_survey.specs.Streams.{Place, fault_told, left_told}
 use Rattle.tr_survey.specs.Told.{Told}
 use Rattle.tr_survey.specs.declared.tally.Tally.{Tally}
 use Rattle.tr_survey.specs.Listing.{key_of}
-use Rattle.tr_survey.specs.Streams.{place}
+use Rattle.tr_survey.specs.Streams.{place_of}
 use Rattle.tr_survey.specs.Prefix.{IsPrefixOut, IsTold}
 use Rattle.std.proofs.Common.{subst}
 use Rattle.tr_survey.proofs.files.tell_left.Goals as goal
@@ -18,11 +18,11 @@ some_left at s offset (b ∷ held) some = refl
 pub returns-in-len1-up-clause-ok : goal.returns-in-len1-up-clause-ok
 returns-in-len1-up-clause-ok g c =
     on_ok_weaker c.tell_cause.result
-    (λ told uuid. subst (λ (t : Told Tally). IsTold t (g.K.ByteSink.taken c.args.sink.now) (g.K.ByteSink.taken c.tell_cause.new.sink) c.tell_cause.new.tally) (some_left (place uuid c.args.stream (key_of c.args.archive.now)) c.args.tally.now c.args.offset c.args.held.now (let l = c.in-len1-up.len_at_least in omega (arith, l))) (told uuid))
+    (λ told from. subst (λ (t : Told Tally). IsTold t (g.K.ByteSink.taken c.args.sink.now) (g.K.ByteSink.taken c.tell_cause.new.sink) c.tell_cause.new.tally) (some_left (place_of from c.args.stream (key_of c.args.archive.now)) c.args.tally.now c.args.offset c.args.held.now (let l = c.in-len1-up.len_at_least in omega (arith, l))) (told from))
     c.tell_cause.ensures.ok
 
 pub returns-in-len1-up-clause-err : goal.returns-in-len1-up-clause-err
 returns-in-len1-up-clause-err g c =
     on_err_weaker c.tell_cause.result
-    (λ told uuid. subst (λ (t : Told Tally). IsPrefixOut t.text (g.K.ByteSink.taken c.args.sink.now) (g.K.ByteSink.taken c.tell_cause.new.sink)) (some_left (place uuid c.args.stream (key_of c.args.archive.now)) c.args.tally.now c.args.offset c.args.held.now (let l = c.in-len1-up.len_at_least in omega (arith, l))) (told uuid))
+    (λ told from. subst (λ (t : Told Tally). IsPrefixOut t.text (g.K.ByteSink.taken c.args.sink.now) (g.K.ByteSink.taken c.tell_cause.new.sink)) (some_left (place_of from c.args.stream (key_of c.args.archive.now)) c.args.tally.now c.args.offset c.args.held.now (let l = c.in-len1-up.len_at_least in omega (arith, l))) (told from))
     c.tell_cause.ensures.err

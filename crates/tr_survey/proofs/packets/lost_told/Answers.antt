@@ -3,7 +3,7 @@ use Rattle.std.proofs.lemmas.Result.{IfOk-weaker}
 use Rattle.tr_packet.specs.Packets.{Contents}
 use Rattle.tr_survey.specs.Listing.{key_of}
 use Rattle.tr_survey.specs.Losses.{unplaced}
-use Rattle.tr_survey.specs.Streams.{Place, discarded, discarded_told, ends_told, fitted_told, lost_told, place, taken_before}
+use Rattle.tr_survey.specs.Streams.{Place, TraceState, discarded, discarded_told, ends_told, fitted_told, lost_told, place_of, taken_before}
 use Rattle.tr_survey.specs.declared.losses.Taken.{Taken}
 use Rattle.tr_survey.specs.declared.tally.Last.{Last}
 use Rattle.tr_survey.proofs.packets.lost_told.Goals as goal
@@ -20,24 +20,25 @@ some_lost at last p count t is some taken =
 
 pub returns-in_default : goal.returns-in_default
 returns-in_default c =
+    let at = place_of c.args.trace.now c.args.stream (key_of c.args.archive.now) in
     IfOk-weaker c.ends_told.result
-    (λ s. (uuid : List ℕ) → string_bytes s ≡ ends_told (place uuid c.args.stream (key_of c.args.archive.now)) c.args.last c.args.packet.now)
-    (λ s. (uuid : List ℕ) → string_bytes s ≡ lost_told (place uuid c.args.stream (key_of c.args.archive.now)) c.args.last c.args.packet.now)
-    (λ s is uuid. is uuid
-    ∙ some_lost (place uuid c.args.stream (key_of c.args.archive.now)) c.args.last c.args.packet.now c.discarded-count.result None
+    (λ s. (from : TraceState) → string_bytes s ≡ ends_told (place_of from c.args.stream (key_of c.args.archive.now)) c.args.last c.args.packet.now)
+    (λ s. string_bytes s ≡ lost_told at c.args.last c.args.packet.now)
+    (λ s is. is c.args.trace.now
+    ∙ some_lost at c.args.last c.args.packet.now c.discarded-count.result None
     c.discarded-count.ensures c.if-count-eq0.false (sym c.in_default.is ∙ c.taken_before.ensures))
     c.ends_told.ensures
 
 pub returns-in-None : goal.returns-in-None
 returns-in-None c =
+    let at = place_of c.args.trace.now c.args.stream (key_of c.args.archive.now) in
     IfOk-weaker c.ends_told-in-None.result
-    (λ s. (uuid : List ℕ) → string_bytes s ≡ ends_told (place uuid c.args.stream (key_of c.args.archive.now)) c.args.last c.args.packet.now)
-    (λ s. (uuid : List ℕ) → string_bytes s ≡ lost_told (place uuid c.args.stream (key_of c.args.archive.now)) c.args.last c.args.packet.now)
-    (λ s is uuid.
-    let at = place uuid c.args.stream (key_of c.args.archive.now) in
+    (λ s. (from : TraceState) → string_bytes s ≡ ends_told (place_of from c.args.stream (key_of c.args.archive.now)) c.args.last c.args.packet.now)
+    (λ s. string_bytes s ≡ lost_told at c.args.last c.args.packet.now)
+    (λ s is.
     let fit = ap (fitted_told at c.args.last c.args.packet.now c.in-Some.taken)
     (c.in-None.ensures ∙ ap (λ (n : ℕ). unplaced n c.in-Some.taken.next c.args.packet.now.records) c.discarded-count.ensures) in
-    is uuid ∙ fit
+    is c.args.trace.now ∙ fit
     ∙ some_lost at c.args.last c.args.packet.now c.discarded-count.result (Some c.in-Some.taken)
     c.discarded-count.ensures c.if-count-eq0.false (sym c.in-Some.is ∙ c.taken_before.ensures))
     c.ends_told-in-None.ensures

@@ -20,10 +20,10 @@ returns-in_err-put_sums_asked-clause-err g c =
     c.as_mut_slice-sums.ensures.value ∙ c.in_ok-sums.ensures.items_if_clones_equal (search rules)
     ∙ ap (λ (s : Sums). replicate (length c.args.archives.now) s) c.new.ensures
     ∙ ap (λ (n : ℕ). replicate n no_sums) (sym (length-map c.args.archives.now key_of)) in
-    let sums : c.tell_streams.new.sums ≡ sums_of t c.args.folder.now c.args.uuid.now archives c.args.faults streams =
-    c.in_ok-count.ensures.sums t known ∙ ap (sums_after_streams t c.args.folder.now c.args.uuid.now archives c.args.faults streams) begun in
-    let lines = lines_asked c.args.asked archives (sums_of t c.args.folder.now c.args.uuid.now archives c.args.faults streams) in
-    second_front (streams_told t c.args.folder.now c.args.uuid.now archives c.args.faults streams) (λ (n : ℕ). told lines n) c.in_ok-count.count
+    let sums : c.tell_streams.new.sums ≡ sums_of t c.args.folder.now c.args.trace.now archives c.args.faults streams =
+    c.in_ok-count.ensures.sums t known ∙ ap (sums_after_streams t c.args.folder.now c.args.trace.now archives c.args.faults streams) begun in
+    let lines = lines_asked c.args.asked archives (sums_of t c.args.folder.now c.args.trace.now archives c.args.faults streams) in
+    second_front (streams_told t c.args.folder.now c.args.trace.now archives c.args.faults streams) (λ (n : ℕ). told lines n) c.in_ok-count.count
     (g.K.ByteSink.taken c.args.sink.now) (g.K.ByteSink.taken c.tell_streams.new.sink) (g.K.ByteSink.taken c.put_sums_asked.new.sink)
     (c.in_ok-count.ensures.ok t known)
     (subst (λ (l : List Sums). IsPrefixOut (lines_asked c.args.asked archives l) (g.K.ByteSink.taken c.tell_streams.new.sink) (g.K.ByteSink.taken c.put_sums_asked.new.sink))
@@ -37,10 +37,10 @@ returns-clause-ok g c t known =
     c.as_mut_slice-sums.ensures.value ∙ c.in_ok-sums.ensures.items_if_clones_equal (search rules)
     ∙ ap (λ (s : Sums). replicate (length c.args.archives.now) s) c.new.ensures
     ∙ ap (λ (n : ℕ). replicate n no_sums) (sym (length-map c.args.archives.now key_of)) in
-    let sums : c.tell_streams.new.sums ≡ sums_of t c.args.folder.now c.args.uuid.now archives c.args.faults streams =
-    c.in_ok-count.ensures.sums t known ∙ ap (sums_after_streams t c.args.folder.now c.args.uuid.now archives c.args.faults streams) begun in
-    let lines = lines_asked c.args.asked archives (sums_of t c.args.folder.now c.args.uuid.now archives c.args.faults streams) in
-    both_told (streams_told t c.args.folder.now c.args.uuid.now archives c.args.faults streams) (λ (n : ℕ). told lines n) c.in_ok-count.count
+    let sums : c.tell_streams.new.sums ≡ sums_of t c.args.folder.now c.args.trace.now archives c.args.faults streams =
+    c.in_ok-count.ensures.sums t known ∙ ap (sums_after_streams t c.args.folder.now c.args.trace.now archives c.args.faults streams) begun in
+    let lines = lines_asked c.args.asked archives (sums_of t c.args.folder.now c.args.trace.now archives c.args.faults streams) in
+    both_told (streams_told t c.args.folder.now c.args.trace.now archives c.args.faults streams) (λ (n : ℕ). told lines n) c.in_ok-count.count
     (g.K.ByteSink.taken c.args.sink.now) (g.K.ByteSink.taken c.tell_streams.new.sink) (g.K.ByteSink.taken c.put_sums_asked.new.sink) c.in_ok-count.count
     (c.in_ok-count.ensures.ok t known)
     (record {

@@ -14,10 +14,10 @@ invariant-loop-at g l = record {
   reads : g.F.Folders.failures l.folders ≡ g.F.Folders.failures l.initial.folders;
   writes : g.K.ByteSink.failures l.sink ≡ g.K.ByteSink.failures l.initial.sink;
   goes : (t : Tree) → g.F.Folders.tree l.initial.folders ≡ Some t
-      → GoesOn (files_told t l.folder l.uuid (key_of l.stream) l.initial.tally (map key_of l.archives))
-      (files_told t l.folder l.uuid (key_of l.stream) l.tally (map key_of (drop l.at l.archives)))
+      → GoesOn (files_told t l.folder l.trace (key_of l.stream) l.initial.tally (map key_of l.archives))
+      (files_told t l.folder l.trace (key_of l.stream) l.tally (map key_of (drop l.at l.archives)))
       (g.K.ByteSink.taken l.initial.sink) (g.K.ByteSink.taken l.sink);
   sums : (t : Tree) → g.F.Folders.tree l.initial.folders ≡ Some t
-      → sums_from t l.folder l.uuid (key_of l.stream) l.tally l.archives l.sums l.at
-      ≡ sums_from t l.folder l.uuid (key_of l.stream) l.initial.tally l.archives l.initial.sums 0;
+      → sums_from t l.folder l.trace (key_of l.stream) l.tally l.archives l.sums l.at
+      ≡ sums_from t l.folder l.trace (key_of l.stream) l.initial.tally l.archives l.initial.sums 0;
 }

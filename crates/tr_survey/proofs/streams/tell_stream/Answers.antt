@@ -17,9 +17,9 @@ returns-in_err-lines-clause-err g c =
     let archives = map key_of c.args.archives.now in
     let mid = g.K.ByteSink.taken c.tell_files.new.sink in
     let tally = c.tell_files.new.tally in
-    let first = files_told t c.args.folder.now c.args.uuid.now stream (no_tally c.args.faults) archives in
+    let first = files_told t c.args.folder.now c.args.trace.now stream (no_tally c.args.faults) archives in
     let second : Tally → Told ℕ = λ (s : Tally). ended_told stream (are_deleted archives) s in
-    let is = subst (λ (s : Tally). IsTold (files_told t c.args.folder.now c.args.uuid.now stream s archives) (g.K.ByteSink.taken c.args.sink.now) mid tally)
+    let is = subst (λ (s : Tally). IsTold (files_told t c.args.folder.now c.args.trace.now stream s archives) (g.K.ByteSink.taken c.args.sink.now) mid tally)
     c.new-tally.ensures (c.in_ok-tell_files.ensures.ok t known) in
     second_front first second tally (g.K.ByteSink.taken c.args.sink.now) mid mid is (front_nothing (second tally).text mid))
 
@@ -30,9 +30,9 @@ returns-in_err-put_line-clause-err g c =
     let archives = map key_of c.args.archives.now in
     let mid = g.K.ByteSink.taken c.tell_files.new.sink in
     let tally = c.tell_files.new.tally in
-    let first = files_told t c.args.folder.now c.args.uuid.now stream (no_tally c.args.faults) archives in
+    let first = files_told t c.args.folder.now c.args.trace.now stream (no_tally c.args.faults) archives in
     let second : Tally → Told ℕ = λ (s : Tally). ended_told stream (are_deleted archives) s in
-    let is = subst (λ (s : Tally). IsTold (files_told t c.args.folder.now c.args.uuid.now stream s archives) (g.K.ByteSink.taken c.args.sink.now) mid tally)
+    let is = subst (λ (s : Tally). IsTold (files_told t c.args.folder.now c.args.trace.now stream s archives) (g.K.ByteSink.taken c.args.sink.now) mid tally)
     c.new-tally.ensures (c.in_ok-tell_files.ensures.ok t known) in
     let lines : c.as_str.result.now ≡ (second tally).text =
     c.as_str.ensures.value ∙ c.in_ok-lines.ensures ∙ ap (λ (b : Bool). (ended_told stream b tally).text) c.are_deleted.ensures in
@@ -45,9 +45,9 @@ returns-clause-ok g c t known =
     let archives = map key_of c.args.archives.now in
     let mid = g.K.ByteSink.taken c.tell_files.new.sink in
     let tally = c.tell_files.new.tally in
-    let first = files_told t c.args.folder.now c.args.uuid.now stream (no_tally c.args.faults) archives in
+    let first = files_told t c.args.folder.now c.args.trace.now stream (no_tally c.args.faults) archives in
     let second : Tally → Told ℕ = λ (s : Tally). ended_told stream (are_deleted archives) s in
-    let is = subst (λ (s : Tally). IsTold (files_told t c.args.folder.now c.args.uuid.now stream s archives) (g.K.ByteSink.taken c.args.sink.now) mid tally)
+    let is = subst (λ (s : Tally). IsTold (files_told t c.args.folder.now c.args.trace.now stream s archives) (g.K.ByteSink.taken c.args.sink.now) mid tally)
     c.new-tally.ensures (c.in_ok-tell_files.ensures.ok t known) in
     let lines : c.as_str.result.now ≡ (second tally).text =
     c.as_str.ensures.value ∙ c.in_ok-lines.ensures ∙ ap (λ (b : Bool). (ended_told stream b tally).text) c.are_deleted.ensures in
@@ -57,4 +57,4 @@ returns-clause-ok g c t known =
 pub returns-clause-sums : goal.returns-clause-sums
 returns-clause-sums g c t known =
     c.in_ok-tell_files.ensures.sums t known
-    ∙ ap (λ (s : Tally). sums_after_files t c.args.folder.now c.args.uuid.now (key_of c.args.stream.now) s (map key_of c.args.archives.now) c.args.sums.now) c.new-tally.ensures
+    ∙ ap (λ (s : Tally). sums_after_files t c.args.folder.now c.args.trace.now (key_of c.args.stream.now) s (map key_of c.args.archives.now) c.args.sums.now) c.new-tally.ensures

@@ -15,7 +15,7 @@ pub returns-in_err-count-clause-err : goal.returns-in_err-count-clause-err
 returns-in_err-count-clause-err g c =
     at_err c.from_residual.result (λ t known.
     let i = c.loop-stream.stream-index in
-    (goes_to _ _ _ _ _ (streams_at t c.args.folder.now c.args.uuid.now (map key_of c.args.archives.now) c.loop-stream.count c.args.streams.now i c.stream-item.result c.loop-stream-test.true c.stream-item.is)
+    (goes_to _ _ _ _ _ (streams_at t c.args.folder.now c.args.trace.now (map key_of c.args.archives.now) c.loop-stream.count c.args.streams.now i c.stream-item.result c.loop-stream-test.true c.stream-item.is)
     (c.loop-stream.invariant.goes t known)).front _
     (front_longer _ _ _ _ (c.in_err-count.ensures.err t (c.loop-stream.invariant.tree ∙ known))))
 
@@ -29,10 +29,10 @@ loop-stream-preserved g c = record {
   goes = λ t known.
       let i = c.loop-stream.stream-index in
       let archives = map key_of c.args.archives.now in
-      goes_next _ (stream_told t c.args.folder.now c.args.uuid.now archives c.loop-stream.count (key_of c.stream-item.result))
-      (λ (n : ℕ). streams_told t c.args.folder.now c.args.uuid.now archives n (map key_of (drop (i + 1) c.args.streams.now)))
+      goes_next _ (stream_told t c.args.folder.now c.args.trace.now archives c.loop-stream.count (key_of c.stream-item.result))
+      (λ (n : ℕ). streams_told t c.args.folder.now c.args.trace.now archives n (map key_of (drop (i + 1) c.args.streams.now)))
       _ _ (g.K.ByteSink.taken c.loop-stream.sink) _
-      (goes_to _ _ _ _ _ (streams_at t c.args.folder.now c.args.uuid.now archives c.loop-stream.count c.args.streams.now i c.stream-item.result c.loop-stream-test.true c.stream-item.is)
+      (goes_to _ _ _ _ _ (streams_at t c.args.folder.now c.args.trace.now archives c.loop-stream.count c.args.streams.now i c.stream-item.result c.loop-stream-test.true c.stream-item.is)
       (c.loop-stream.invariant.goes t known))
       (c.in_ok-count.ensures.ok t (c.loop-stream.invariant.tree ∙ known));
   sums = λ t known.
@@ -40,11 +40,11 @@ loop-stream-preserved g c = record {
       let archives = map key_of c.args.archives.now in
       let rest = map key_of (drop (i + 1) c.args.streams.now) in
       let now = c.loop-stream.invariant.tree ∙ known in
-      ap (sums_after_streams t c.args.folder.now c.args.uuid.now archives c.in_ok-count.count rest) (c.in_ok-count.ensures.sums t now)
-      ∙ ap (λ (n : ℕ). sums_after_streams t c.args.folder.now c.args.uuid.now archives n rest
-      (sums_after_files t c.args.folder.now c.args.uuid.now (key_of c.stream-item.result) (no_tally c.loop-stream.count) archives c.loop-stream.sums))
+      ap (sums_after_streams t c.args.folder.now c.args.trace.now archives c.in_ok-count.count rest) (c.in_ok-count.ensures.sums t now)
+      ∙ ap (λ (n : ℕ). sums_after_streams t c.args.folder.now c.args.trace.now archives n rest
+      (sums_after_files t c.args.folder.now c.args.trace.now (key_of c.stream-item.result) (no_tally c.loop-stream.count) archives c.loop-stream.sums))
       (c.in_ok-count.ensures.ok t now).state_is
-      ∙ ap (λ (l : List Numbered). sums_after_streams t c.args.folder.now c.args.uuid.now archives c.loop-stream.count l c.loop-stream.sums)
+      ∙ ap (λ (l : List Numbered). sums_after_streams t c.args.folder.now c.args.trace.now archives c.loop-stream.count l c.loop-stream.sums)
       (sym (from_place key_of c.args.streams.now i c.stream-item.result c.loop-stream-test.true c.stream-item.is))
       ∙ c.loop-stream.invariant.sums t known;
 }
@@ -53,13 +53,13 @@ pub returns-clause-ok : goal.returns-clause-ok
 returns-clause-ok g c t known =
     let past : length c.args.streams.now ≤ c.loop-stream.stream-index = omega arith in
     goes_end _ _ _ _
-    (subst (λ (l : List value.Numbered). GoesOn (streams_told t c.args.folder.now c.args.uuid.now (map key_of c.args.archives.now) c.args.faults (map key_of c.args.streams.now))
-    (streams_told t c.args.folder.now c.args.uuid.now (map key_of c.args.archives.now) c.loop-stream.count (map key_of l)) (g.K.ByteSink.taken c.args.sink.now) (g.K.ByteSink.taken c.loop-stream.sink))
+    (subst (λ (l : List value.Numbered). GoesOn (streams_told t c.args.folder.now c.args.trace.now (map key_of c.args.archives.now) c.args.faults (map key_of c.args.streams.now))
+    (streams_told t c.args.folder.now c.args.trace.now (map key_of c.args.archives.now) c.loop-stream.count (map key_of l)) (g.K.ByteSink.taken c.args.sink.now) (g.K.ByteSink.taken c.loop-stream.sink))
     (drop_all c.loop-stream.stream-index c.args.streams.now past) (c.loop-stream.invariant.goes t known))
 
 pub returns-clause-sums : goal.returns-clause-sums
 returns-clause-sums g c t known =
     let past : length c.args.streams.now ≤ c.loop-stream.stream-index = omega arith in
-    ap (λ (l : List value.Numbered). sums_after_streams t c.args.folder.now c.args.uuid.now (map key_of c.args.archives.now) c.loop-stream.count (map key_of l) c.loop-stream.sums)
+    ap (λ (l : List value.Numbered). sums_after_streams t c.args.folder.now c.args.trace.now (map key_of c.args.archives.now) c.loop-stream.count (map key_of l) c.loop-stream.sums)
     (sym (drop_all c.loop-stream.stream-index c.args.streams.now past))
     ∙ c.loop-stream.invariant.sums t known

@@ -14,10 +14,10 @@ invariant-loop-stream g l = record {
   reads : g.F.Folders.failures l.folders ≡ g.F.Folders.failures l.initial.folders;
   writes : g.K.ByteSink.failures l.sink ≡ g.K.ByteSink.failures l.initial.sink;
   goes : (t : Tree) → g.F.Folders.tree l.initial.folders ≡ Some t
-      → GoesOn (streams_told t l.folder l.uuid (map key_of l.archives) l.faults (map key_of l.streams))
-      (streams_told t l.folder l.uuid (map key_of l.archives) l.count (map key_of (drop l.stream-index l.streams)))
+      → GoesOn (streams_told t l.folder l.trace (map key_of l.archives) l.faults (map key_of l.streams))
+      (streams_told t l.folder l.trace (map key_of l.archives) l.count (map key_of (drop l.stream-index l.streams)))
       (g.K.ByteSink.taken l.initial.sink) (g.K.ByteSink.taken l.sink);
   sums : (t : Tree) → g.F.Folders.tree l.initial.folders ≡ Some t
-      → sums_after_streams t l.folder l.uuid (map key_of l.archives) l.count (map key_of (drop l.stream-index l.streams)) l.sums
-      ≡ sums_after_streams t l.folder l.uuid (map key_of l.archives) l.faults (map key_of l.streams) l.initial.sums;
+      → sums_after_streams t l.folder l.trace (map key_of l.archives) l.count (map key_of (drop l.stream-index l.streams)) l.sums
+      ≡ sums_after_streams t l.folder l.trace (map key_of l.archives) l.faults (map key_of l.streams) l.initial.sums;
 }

@@ -26,6 +26,9 @@ returns-in-Absent-clause-ok g c t known =
     subst (λ (o : Told (Option ℕ)). IsTold o (g.K.ByteSink.taken c.args.sink.now) (g.K.ByteSink.taken c.args.sink.now) c.args.faults) (sym (no_folder c.args.asked t c.args.dir.now c.args.faults c.args.name.now c.as_str.result.now path none))
     (record { out = sym (and_then_bytes-none (g.K.ByteSink.taken c.args.sink.now)); state_is = refl })
 
+pub returns-in_err-archives-clause-err : goal.returns-in_err-archives-clause-err
+returns-in_err-archives-clause-err g c = at_err c.from_residual-in_err-archives.result (λ t known. front_nothing _ _)
+
 pub returns-in_err-count-clause-err : goal.returns-in_err-count-clause-err
 returns-in_err-count-clause-err g c =
     at_err c.from_residual-in_err-count.result (λ t known.
