@@ -1,4 +1,5 @@
 pub mod Bodies
+pub mod Closed
 pub mod Counters
 pub mod Parts
 pub mod Runs

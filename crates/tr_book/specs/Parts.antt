@@ -1,6 +1,7 @@
 -- The packets that were consumed, in parts.
-use Rattle.std.specs.Prelude.{◌≡◌, ◌≤◌, ◌<◌, ◌*◌, ℕ, zero, suc, ◌+◌, List, [], ◌∷◌, ◌++◌, length, sum_by, slice_get, Option, Some, None, find, ◌==◌, nat_le, if◌then◌else◌}
-use Rattle.std.specs.Option.{option_map}
+use Rattle.std.specs.Prelude.{◌≡◌, ◌≤◌, ◌*◌, ℕ, zero, suc, ◌+◌, max, true, List, [], ◌∷◌, ◌++◌, length, sum_by, slice_get, Option, Some, None, is_some, take, find, ◌==◌, nat_le, nat_lt, if◌then◌else◌}
+use Rattle.std.specs.List.{AllByRecursion}
+use Rattle.std.specs.Option.{option_map, unwrap_or}
 use Rattle.tr_book.specs.Runs.{GapsShow, PacketsRise, RunsRise, packet_runs, seq_in_runs}
 use Rattle.tr_book.specs.declared.runs.Run.{Run}
 use Rattle.tr_packet.specs.Packets.{Contents, packet_size}
@@ -23,17 +24,19 @@ pub record PartState : Type 0 where
 abbrev pub part_state : ℕ → List Contents → PartState
 part_state id packets = record { id = id; packets = packets; released = None }
 
--- the closed parts in order, the current one, and the runs of the packets that were cleared; and the serials at which the
--- parts after the first one began
+-- the closed parts in order, the current one, and the runs of the packets that were cleared; the serials at which the parts
+-- after the first one began; and how many of the closed parts, the first ones, are forgotten: they are released, and no call
+-- tells what they were
 pub record PartsState : Type 0 where
   pub closed : List PartState
   pub current : PartState
   pub cleared : List Run
   pub starts : List ℕ
+  pub forgotten : ℕ
 
-abbrev pub parts_state : List PartState → PartState → List Run → List ℕ → PartsState
-parts_state closed current cleared starts =
-    record { closed = closed; current = current; cleared = cleared; starts = starts }
+abbrev pub parts_state : List PartState → PartState → List Run → List ℕ → ℕ → PartsState
+parts_state closed current cleared starts forgotten =
+    record { closed = closed; current = current; cleared = cleared; starts = starts; forgotten = forgotten }
 
 abbrev pub bytes_of : List Contents → ℕ
 bytes_of packets = sum_by packet_size packets
@@ -46,7 +49,7 @@ abbrev pub empty_part : ℕ → PartState
 empty_part id = part_state id []
 
 abbrev pub no_parts : PartsState
-no_parts = parts_state [] (empty_part 0) [] []
+no_parts = parts_state [] (empty_part 0) [] [] 0
 
 -- the packet is added at the end of the current part
 abbrev pub with_packet : Contents → PartsState → PartsState
@@ -67,12 +70,12 @@ with_packets ps s = record s { current = record s.current { packets = s.current.
 -- the current part joins the closed ones, and the next one begins at this serial
 abbrev pub close_part : ℕ → PartsState → PartsState
 close_part next s =
-    parts_state (s.closed ++ s.current ∷ []) (empty_part (s.current.id + 1)) s.cleared (s.starts ++ next ∷ [])
+    parts_state (s.closed ++ s.current ∷ []) (empty_part (s.current.id + 1)) s.cleared (s.starts ++ next ∷ []) s.forgotten
 
 -- the current part is emptied, and the runs of its packets are kept after the others, and these after them
 abbrev pub clear_part : List Run → PartsState → PartsState
 clear_part more s =
-    parts_state s.closed (empty_part s.current.id) (s.cleared ++ (packet_runs s.current.packets ++ more)) s.starts
+    parts_state s.closed (empty_part s.current.id) (s.cleared ++ (packet_runs s.current.packets ++ more)) s.starts s.forgotten
 
 abbrev pub rest_of : List Contents → Rest
 rest_of packets = record {
@@ -99,9 +102,39 @@ change_at (suc i) f (x ∷ xs) = x ∷ change_at i f xs
 abbrev pub release_part : ℕ → PartsState → PartsState
 release_part k s = record s { closed = change_at k release s.closed }
 
+-- the closed parts below this number are forgotten, and those that were before
+abbrev pub forget_parts : ℕ → PartsState → PartsState
+forget_parts k s = record s { forgotten = max k s.forgotten }
+
 -- a closed part by its place, or the current one after them
 abbrev pub part_at : ℕ → PartsState → Option PartState
 part_at k s = if k == length s.closed then Some s.current else slice_get s.closed k
+
+-- the same, if it isn't forgotten
+abbrev pub part_known : ℕ → PartsState → Option PartState
+part_known k s = if nat_lt k s.forgotten then None else part_at k s
+
+-- a closed part by its place, if it isn't one of the first ones, so many, that are forgotten
+abbrev pub closed_at : ℕ → ℕ → List PartState → Option PartState
+closed_at k forgotten closed = if nat_lt k forgotten then None else slice_get closed k
+
+-- where the part at this place began, if parts after the first one began at these serials
+abbrev pub begun_at : ℕ → List ℕ → ℕ
+begun_at zero starts = 0
+begun_at (suc k) starts = unwrap_or (slice_get starts k) 0
+
+-- the serials below this one are those of forgotten parts, and of what was lost or cleared while these were current
+abbrev pub known_from : PartsState → ℕ
+known_from s = begun_at s.forgotten s.starts
+
+-- each of these parts was released
+abbrev pub AreReleased : List PartState → Type 0
+AreReleased parts = AllByRecursion (λ (p : PartState). is_some p.released ≡ true) parts
+
+-- what is forgotten was closed, and released
+pub record IsForgetful (s : PartsState) : Type 0 where
+  pub closed : s.forgotten ≤ length s.closed
+  pub released : AreReleased (take s.forgotten s.closed)
 
 -- the number of the packet that has the record of a serial
 abbrev pub seq_among : ℕ → List Contents → Option ℕ
@@ -151,16 +184,6 @@ place_in n (s ∷ starts) = if nat_le s n then place_in n starts + 1 else 0
 pub record ReadyState : Type 0 where
   pub parts : PartsState
   pub room : ℕ
-
--- a current part of this number with these packets, which have so many records and bytes, after so many closed parts; and the lists
--- of closed parts and of their beginnings have room for one more
-pub record IsReady (id records bytes : ℕ) (packets : List Contents) (closed closed_room starts starts_room : ℕ) : Type 0 where
-  pub numbered : id ≡ closed
-  pub counted : records ≡ records_of packets
-  pub sized : bytes ≡ bytes_of packets
-  pub small : bytes ≤ LARGEST_PACKET * records
-  pub one_closed : closed < closed_room
-  pub one_start : starts < starts_room
 
 -- a part, and how many more packets it has room for
 pub record OpenState : Type 0 where

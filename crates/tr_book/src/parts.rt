@@ -1,10 +1,12 @@
 //! The parts of a stream.
 
-ghost use Rattle.std.specs.Prelude.{◌≡◌, ◌≢◌, ◌+◌, ◌≤◌, ◌<◌, ◌^◌, [], Some, None, IfOk, IfErr, OnOk, OnErr, length, option_copied, slice_get, vec_capacity, vec_len};
+ghost use Rattle.std.specs.Prelude.{◌≡◌, ◌≢◌, ◌+◌, ◌≤◌, ◌<◌, ◌^◌, [], Some, None, IfOk, IfErr, OnOk, OnErr, length, option_copied, slice_get, take, vec_capacity, vec_len};
 ghost use Rattle.std.specs.List.Sorted.{IsNonDecreasing};
-ghost use Rattle.tr_book.specs.Parts.{IsNumbered, PartState, empty_part, records_of, no_parts, with_packet, with_packets, with_part, change_at, close_part, clear_part, place_in, release, release_part, part_at};
+ghost use Rattle.tr_book.specs.Closed.{HasRoom, IsClosed, closed_of, forgotten_of, starts_of};
+ghost use Rattle.tr_book.specs.Parts.{AreReleased, IsForgetful, IsNumbered, PartState, empty_part, forget_parts, known_from, records_of, no_parts, with_packet, with_packets, with_part, close_part, clear_part, part_known, place_in, release_part};
 ghost use Rattle.tr_book.specs.Runs.{GapsShow, RunsRise, packet_runs, seq_in_runs};
 
+use crate::closed::ClosedParts;
 use crate::open::OpenPart;
 use crate::part::{Part, bytes_in, records_in};
 use crate::runs::Runs;
@@ -17,34 +19,33 @@ use tr_packet::{PacketText, Packets};
 #[derive(Drop)]
 pub struct Parts<A: Allocator = Global> {
     alloc: A,
-    closed: Vec<Part<A>, A>,
+    closed: ClosedParts<A>,
     current: Part<A>,
     cleared: Runs<A>,
-    // the serials at which the parts after the first one began
-    starts: Vec<u64, A>,
 }
 
 impl<A: Allocator> Model for Parts<A> {
     ghost use Rattle.std.specs.Prelude.{◌≡◌, None};
-    ghost use Rattle.tr_book.specs.Parts.{PartsState, IsNumbered, parts_state};
+    ghost use Rattle.tr_book.specs.Closed.{IsClosed, parts_of};
+    ghost use Rattle.tr_book.specs.Parts.{PartsState, IsNumbered};
 
     ghost Value = { PartsState };
 
-    ghost view = { λ s. parts_state s.closed.items s.current s.cleared s.starts.items };
+    ghost view = { λ s. parts_of s.closed s.current s.cleared };
 
-    ghost invariant = { λ s. IsNumbered (parts_state s.closed.items s.current s.cleared s.starts.items)
-        × (s.current.released ≡ None) };
+    ghost invariant = { λ s. IsNumbered (parts_of s.closed s.current s.cleared) × (s.current.released ≡ None)
+        × IsClosed s.closed };
 }
 
 impl<A: Allocator> Parts<A> {
-    /// The part number `k`: a closed one, or the current one after them.
+    /// The part number `k`: a closed one that isn't forgotten, or the current one after them.
     pub fn part(&self, k: u64) -> Option<&Part<A>>
-        ensures { option_copied result ≡ part_at k self.now }
+        ensures { option_copied result ≡ part_known k self.now }
     {
         if k == self.cuts() {
             return Some(&self.current);
         }
-        self.closed.get(k as usize)
+        self.closed.part(k)
     }
 
     /// The part to which packets are added.
@@ -55,11 +56,19 @@ impl<A: Allocator> Parts<A> {
         &self.current
     }
 
-    /// The closed parts, in order.
-    pub fn closed(&self) -> &[Part<A>]
-        ensures { result.now ≡ self.now.closed }
+    /// How many of the closed parts are forgotten: the first ones. All of these were released.
+    pub fn forgotten(&self) -> u64
+        ensures value { result ≡ self.now.forgotten }
+        ensures released { IsForgetful self.now }
     {
-        self.closed.as_slice()
+        self.closed.forgotten()
+    }
+
+    /// The serial at which the first part began that isn't forgotten.
+    pub fn known_from(&self) -> u64
+        ensures { result ≡ known_from self.now }
+    {
+        self.closed.begin()
     }
 
     /// The number of the cleared packet that had the record of this serial, if the runs of cleared packets rise. It looks at
@@ -70,12 +79,12 @@ impl<A: Allocator> Parts<A> {
         self.cleared.search(serial)
     }
 
-    /// The place of the part that has the record of this serial, if one has it: the last part that began at this serial or
-    /// before. It looks at few of them, if serials rise.
+    /// The place of the part that has the record of this serial, if one has it and it isn't one of a forgotten part: the last
+    /// part that began at this serial or before. It looks at few of them, if serials rise.
     pub fn place_of(&self, serial: u64) -> u64
-        ensures { IsNonDecreasing self.now.starts → result ≡ place_in serial self.now.starts }
+        ensures { IsNonDecreasing self.now.starts → known_from self.now ≤ serial → result ≡ place_in serial self.now.starts }
     {
-        self.starts.partition_point(|start| *start <= serial) as u64
+        self.closed.place_of(serial)
     }
 
     /// How many parts are closed.
@@ -83,60 +92,25 @@ impl<A: Allocator> Parts<A> {
         ensures value { result ≡ length self.now.closed }
         ensures numbered { IsNumbered self.now }
     {
-        self.closed.len() as u64
+        self.closed.count()
     }
-}
-
-/// Releases the part at this place.
-fn release_at<A: Allocator + Copy>(
-    parts: &mut Vec<Part<A>, A>,
-    alloc: A,
-    k: usize,
-) -> Result<(), AllocError>
-    requires within { k < length parts.old.items }
-    requires held { (part : PartState) → slice_get parts.old.items k ≡ Some part → part.released ≡ None }
-    ensures ok { OnOk result (parts.new.items ≡ change_at k release parts.old.items) }
-    ensures err { OnErr result (parts.new.items ≡ parts.old.items) }
-    ensures memory { OnErr result ((part : PartState) → slice_get parts.old.items k ≡ Some part → part.packets ≢ []) }
-{
-    parts[k].release(alloc)?;
-    Ok(())
-}
-
-/// The same for packets of one stream in order, which come out.
-fn release_out_at<A: Allocator + Copy>(
-    parts: &mut Vec<Part<A>, A>,
-    alloc: A,
-    k: usize,
-) -> Result<Vec<PacketText<A>, A>, AllocError>
-    requires within { k < length parts.old.items }
-    requires held { (part : PartState) → slice_get parts.old.items k ≡ Some part → part.released ≡ None }
-    requires gaps { (part : PartState) → slice_get parts.old.items k ≡ Some part → GapsShow 0 part.packets }
-    ensures packets { IfOk result (λ t. (part : PartState) → slice_get parts.old.items k ≡ Some part → t.items ≡ part.packets) }
-    ensures ok { OnOk result (parts.new.items ≡ change_at k release parts.old.items) }
-    ensures err { OnErr result (parts.new.items ≡ parts.old.items) }
-    ensures memory { OnErr result ((part : PartState) → slice_get parts.old.items k ≡ Some part → part.packets ≢ []) }
-{
-    let texts = parts[k].release_out(alloc)?;
-    Ok(texts)
 }
 
 /// Takes care that there is room for one more closed part and its end, and for so many more packets.
 fn reserve_all<A: Allocator>(
-    closed: &mut Vec<Part<A>, A>,
-    starts: &mut Vec<u64, A>,
+    closed: &mut ClosedParts<A>,
     texts: &mut Vec<PacketText<A>, A>,
     count: usize,
 ) -> Result<(), AllocError>
-    ensures closed { closed.new.items ≡ closed.old.items }
-    ensures starts { starts.new.items ≡ starts.old.items }
+    requires { IsClosed closed.old }
+    ensures closed { IsClosed closed.new }
+    ensures same { (closed_of closed.new ≡ closed_of closed.old) × (starts_of closed.new ≡ starts_of closed.old)
+        × (forgotten_of closed.new ≡ forgotten_of closed.old) }
     ensures texts { texts.new.items ≡ texts.old.items }
-    ensures one_closed { OnOk result (vec_len closed.new < vec_capacity closed.new) }
-    ensures one_start { OnOk result (vec_len starts.new < vec_capacity starts.new) }
+    ensures one_more { OnOk result (HasRoom closed.new) }
     ensures room { OnOk result (vec_len texts.new + count ≤ vec_capacity texts.new) }
 {
-    closed.reserve(1)?;
-    starts.reserve(1)?;
+    closed.reserve()?;
     texts.reserve(count)?;
     Ok(())
 }
@@ -148,10 +122,9 @@ impl<A: Allocator + Copy> Parts<A> {
     {
         Parts {
             alloc,
-            closed: Vec::new(alloc),
+            closed: ClosedParts::new(alloc),
             current: Part::new(alloc, 0),
             cleared: Runs::new(alloc),
-            starts: Vec::new(alloc),
         }
     }
 
@@ -166,11 +139,10 @@ impl<A: Allocator + Copy> Parts<A> {
             mut closed,
             current,
             cleared,
-            mut starts,
         } = self;
         let (id, records, bytes) = (current.id(), current.records(), current.bytes());
         let mut texts = current.into_texts();
-        match reserve_all(&mut closed, &mut starts, &mut texts, count) {
+        match reserve_all(&mut closed, &mut texts, count) {
             Ok(()) => Ok(ReadyParts {
                 alloc,
                 closed,
@@ -179,14 +151,12 @@ impl<A: Allocator + Copy> Parts<A> {
                 bytes,
                 texts,
                 cleared,
-                starts,
             }),
             Err(_) => Err(Parts {
                 alloc,
                 closed,
                 current: Part::held(id, records, bytes, texts),
                 cleared,
-                starts,
             }),
         }
     }
@@ -226,7 +196,7 @@ impl<A: Allocator + Copy> Parts<A> {
         ensures err { OnErr result (self.new ≡ self.old) }
         ensures memory { OnErr result ((part : PartState) → slice_get self.old.closed k ≡ Some part → part.packets ≢ []) }
     {
-        release_at(&mut self.closed, self.alloc, k as usize)?;
+        self.closed.release(self.alloc, k)?;
         Ok(())
     }
 
@@ -241,8 +211,20 @@ impl<A: Allocator + Copy> Parts<A> {
         ensures err { OnErr result (self.new ≡ self.old) }
         ensures memory { OnErr result ((part : PartState) → slice_get self.old.closed k ≡ Some part → part.packets ≢ []) }
     {
-        let texts = release_out_at(&mut self.closed, self.alloc, k as usize)?;
+        let texts = self.closed.release_out(self.alloc, k)?;
         Ok(texts)
+    }
+
+    /// Forgets the closed parts below `k`, which are released: nothing is kept of them but their number, and where the part
+    /// after them began. If an allocation fails, nothing changes; but what is asked for has no bytes.
+    pub fn forget(&mut self, k: u64) -> Result<(), AllocError>
+        requires closed { k ≤ length self.old.closed }
+        requires released { AreReleased (take k self.old.closed) }
+        ensures ok { OnOk result (self.new ≡ forget_parts k self.old) }
+        ensures err { OnErr result (self.new ≡ self.old) }
+    {
+        self.closed.forget(k)?;
+        Ok(())
     }
 
     /// Removes the packets of the current part, and keeps their runs, and then these. If an allocation fails, nothing changes.
@@ -292,28 +274,28 @@ impl<A: Allocator + Copy> Parts<A> {
 #[derive(Drop)]
 pub struct ReadyParts<A: Allocator = Global> {
     alloc: A,
-    closed: Vec<Part<A>, A>,
+    closed: ClosedParts<A>,
     id: u64,
     records: u64,
     bytes: u128,
     texts: Vec<PacketText<A>, A>,
     cleared: Runs<A>,
-    starts: Vec<u64, A>,
 }
 
 impl<A: Allocator> Model for ReadyParts<A> {
-    ghost use Rattle.std.specs.Prelude.{◌-◌, vec_capacity, vec_len};
-    ghost use Rattle.tr_book.specs.Parts.{ReadyState, IsReady, part_state, parts_state};
+    ghost use Rattle.std.specs.Prelude.{◌≡◌, ◌-◌, length, vec_capacity, vec_len};
+    ghost use Rattle.tr_book.specs.Closed.{HasRoom, IsClosed, closed_of, parts_of};
+    ghost use Rattle.tr_book.specs.Parts.{AreCounted, ReadyState, part_state};
 
     ghost Value = { ReadyState };
 
     ghost view = { λ r. record {
-      parts = parts_state r.closed.items (part_state r.id r.texts.items) r.cleared r.starts.items;
+      parts = parts_of r.closed (part_state r.id r.texts.items) r.cleared;
       room = vec_capacity r.texts - vec_len r.texts;
     } };
 
-    ghost invariant = { λ r. IsReady r.id r.records r.bytes r.texts.items (vec_len r.closed) (vec_capacity r.closed)
-        (vec_len r.starts) (vec_capacity r.starts) };
+    ghost invariant = { λ r. (r.id ≡ length (closed_of r.closed)) × AreCounted r.records r.bytes r.texts.items
+        × IsClosed r.closed × HasRoom r.closed };
 }
 
 impl<A: Allocator + Copy> ReadyParts<A> {
@@ -329,14 +311,12 @@ impl<A: Allocator + Copy> ReadyParts<A> {
             bytes,
             texts,
             cleared,
-            starts,
         } = self;
         Parts {
             alloc,
             closed,
             current: Part::held(id, records, bytes, texts),
             cleared,
-            starts,
         }
     }
 
@@ -354,7 +334,6 @@ impl<A: Allocator + Copy> ReadyParts<A> {
             bytes,
             mut texts,
             cleared,
-            starts,
         } = self;
         let records = records + text.count() as u64;
         let bytes = bytes + text.text().len() as u128;
@@ -364,7 +343,6 @@ impl<A: Allocator + Copy> ReadyParts<A> {
             closed,
             current: Part::held(id, records, bytes, texts),
             cleared,
-            starts,
         }
     }
 
@@ -382,19 +360,16 @@ impl<A: Allocator + Copy> ReadyParts<A> {
             bytes,
             mut texts,
             cleared,
-            mut starts,
         } = self;
         let records = records + records_in(Packets::new(&packets));
         let bytes = bytes + bytes_in(&packets);
         let _ = texts.append(&mut packets);
-        closed.push_reserved(Part::held(id, records, bytes, texts));
-        starts.push_reserved(next);
+        closed.push_reserved(Part::held(id, records, bytes, texts), next);
         Parts {
             alloc,
             closed,
             current: Part::new(alloc, id + 1),
             cleared,
-            starts,
         }
     }
 }

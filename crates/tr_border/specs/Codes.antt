@@ -3,13 +3,13 @@ use Rattle.std.specs.Prelude.{ℕ, ◌+◌, ◌-◌, ◌*◌, ◌==◌, List, []
 use Rattle.std.specs.List.{list_any}
 use Rattle.std.specs.Str.{bytes_eq}
 
--- the hundred of a code's letter: S, O, T, C, X, Y, D, A, G, V, K
+-- the hundred of a code's letter: S, O, T, C, X, Y, D, A, G, V, K, Z
 abbrev pub hundred_of : ℕ → ℕ
 hundred_of letter =
     if letter == 83 then 100 else (if letter == 79 then 200 else (if letter == 84 then 300 else (if letter == 67 then 400
     else (if letter == 88 then 500 else (if letter == 89 then 600 else (if letter == 68 then 700 else (if letter == 65 then 800
     else (if letter == 71 then 900 else (if letter == 86 then 1000
-    else (if letter == 75 then 1100 else 0))))))))))
+    else (if letter == 75 then 1100 else (if letter == 90 then 1200 else 0)))))))))))
 
 -- the number that digits write, after those before
 abbrev pub written_after : ℕ → List ℕ → ℕ
@@ -21,9 +21,9 @@ abbrev pub number_of_code : List ℕ → ℕ
 number_of_code [] = 0
 number_of_code (letter ∷ digits) = hundred_of letter + written_after 0 digits
 
--- the codes of a failed allocation: a session's, a take's, a cut's, a clear's, a release's and an audit's
+-- the codes of a failed allocation: a session's, a take's, a cut's, a clear's, a release's, a forget's and an audit's
 abbrev pub memory_codes : List (List ℕ)
-memory_codes = codes "S16" ∷ codes "T3" ∷ codes "C2" ∷ codes "X2" ∷ codes "Y3" ∷ codes "A5" ∷ []
+memory_codes = codes "S16" ∷ codes "T3" ∷ codes "C2" ∷ codes "X2" ∷ codes "Y3" ∷ codes "Z3" ∷ codes "A5" ∷ []
 
 -- the number of a fault's code, and 1 for all failed allocations
 abbrev pub code_number : List ℕ → ℕ

@@ -92,6 +92,7 @@ fate_out (Some (fate.InChunk chunk seq)) = record { kind = 2; chunk = chunk; seq
 fate_out (Some fate.Discarded) = record { kind = 3; chunk = 0; seq = 0 }
 fate_out (Some fate.Overwritten) = record { kind = 4; chunk = 0; seq = 0 }
 fate_out (Some (fate.Cleared seq)) = record { kind = 5; chunk = 0; seq = seq }
+fate_out (Some fate.Forgotten) = record { kind = 6; chunk = 0; seq = 0 }
 
 -- the fate that has these numbers, if one has
 abbrev pub fate_in : FateOut → Option (Option Fate)
@@ -101,7 +102,8 @@ fate_in out =
     else (if out.kind == 2 then Some (Some (fate.InChunk out.chunk out.seq))
     else (if out.kind == 3 then Some (Some fate.Discarded)
     else (if out.kind == 4 then Some (Some fate.Overwritten)
-    else (if out.kind == 5 then Some (Some (fate.Cleared out.seq)) else None)))))
+    else (if out.kind == 5 then Some (Some (fate.Cleared out.seq))
+    else (if out.kind == 6 then Some (Some fate.Forgotten) else None))))))
 
 abbrev pub part_out : PartState → PartOut
 part_out p = record {

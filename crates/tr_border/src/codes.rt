@@ -8,7 +8,7 @@ ghost use Rattle.tr_packet.specs.Faults.{packet_fault_code};
 ghost use Rattle.tr_schedule.specs.Schedules.{schedule_fault_code};
 ghost use Rattle.tr_session.specs.Faults.{step_fault_code};
 ghost use Rattle.tr_session_book.specs.Faults.{session_fault_code};
-ghost use Rattle.tr_stream.specs.Faults.{clear_fault_code, cut_fault_code, offer_fault_code, release_fault_code, take_fault_code};
+ghost use Rattle.tr_stream.specs.Faults.{clear_fault_code, cut_fault_code, forget_fault_code, offer_fault_code, release_fault_code, take_fault_code};
 ghost use Rattle.tr_terms.specs.Geometry.{geometry_fault_code};
 
 use tr_chunk::AuditCause;
@@ -17,7 +17,7 @@ use tr_packet::PacketFault;
 use tr_schedule::ScheduleFault;
 use tr_session::StepFault;
 use tr_session_book::SessionFault;
-use tr_stream::{ClearFault, CutFault, OfferFault, ReleaseFault, TakeFault};
+use tr_stream::{ClearFault, CutFault, ForgetFault, OfferFault, ReleaseFault, TakeFault};
 use tr_terms::GeometryFault;
 
 /// All was done.
@@ -145,6 +145,17 @@ pub fn release_code(fault: ReleaseFault) -> u32
         ReleaseFault::NoPart => 601,
         ReleaseFault::Released => 602,
         ReleaseFault::NoMemory => NO_MEMORY,
+    }
+}
+
+/// The number of a forget's refusal.
+pub fn forget_code(fault: ForgetFault) -> u32
+    ensures { result ≡ code_number (forget_fault_code fault) }
+{
+    match fault {
+        ForgetFault::NoPart => 1201,
+        ForgetFault::Held => 1202,
+        ForgetFault::NoMemory => NO_MEMORY,
     }
 }
 

@@ -12,7 +12,7 @@
 //!
 //! - A refusal's number is that of its code: the hundred of its letter, and its digits; or 1, if an allocation failed. It goes
 //!   back to the fault that it is of, and to no other; so do the numbers of counts and of fates (`offer_code`, `take_code`,
-//!   `cut_code`, `clear_code`, `release_code`, `session_code`, `step_code`, `schedule_code`, `geometry_code`, `packet_code`,
+//!   `cut_code`, `clear_code`, `release_code`, `forget_code`, `session_code`, `step_code`, `schedule_code`, `geometry_code`, `packet_code`,
 //!   `event_code`, `audit_code`, `code_of`, `counts_in`; `fault_numbered`: `value`, `session`, `schedule`, `number`; `fate_in`:
 //!   `value`, `told`).
 //! - Each struct of a result has the numbers of the answer, one by one (`about_out`, `archive_out`, `audited_out`, `cause_out`,

@@ -348,6 +348,7 @@ pub fn fate_out(fate: Option<Fate>) -> FateOut
         Some(Fate::Discarded) => (3, 0, 0),
         Some(Fate::Overwritten) => (4, 0, 0),
         Some(Fate::Cleared { seq }) => (5, 0, seq),
+        Some(Fate::Forgotten) => (6, 0, 0),
     };
     FateOut { kind, chunk, seq }
 }
@@ -365,6 +366,7 @@ pub fn fate_in(fate: FateOut) -> Option<Option<Fate>>
         3 => Some(Some(Fate::Discarded)),
         4 => Some(Some(Fate::Overwritten)),
         5 => Some(Some(Fate::Cleared { seq })),
+        6 => Some(Some(Fate::Forgotten)),
         _ => None,
     }
 }

@@ -16,9 +16,9 @@
 //! (`closed`, or the first case of `value` and `answer`). A refusal leaves handles and results as they were (`refused`, `same`,
 //! `no_memory`, or the old values in `value`); only an audit says in its result where it stopped, and says the same again.
 //!
-//! - An offer, a take, a cut, a clear and a release are the stream's, and so is what they leave (`trc_stream_offer`: `value`
-//!   (`state_offer_answer`, `state_after_offer`); `trc_stream_take`, `trc_stream_cut`, `trc_stream_clear`,
-//!   `trc_stream_release`: `value`, `no_memory`; `trc_stream_new`: `in_use`, `value`, `no_memory`; `trc_stream_switch`:
+//! - An offer, a take, a cut, a clear, a release and a forget are the stream's, and so is what they leave (`trc_stream_offer`:
+//!   `value` (`state_offer_answer`, `state_after_offer`); `trc_stream_take`, `trc_stream_cut`, `trc_stream_clear`,
+//!   `trc_stream_release`, `trc_stream_forget`: `value`, `no_memory`; `trc_stream_new`: `in_use`, `value`, `no_memory`; `trc_stream_switch`:
 //!   `answer`, `after`).
 //! - A thread and its stream come together, or neither. Starts, stops, a rotation's end, channels, schedules, snapshots and a
 //!   rotation's beginning are the book's rules (`trc_book_thread`: `done`, `refused`, `why`; `trc_book_start`, `trc_book_stop`,

@@ -1,7 +1,7 @@
 //! What a stream is made with, and what is read of it.
 
 ghost use Rattle.std.specs.Prelude.{◌≡◌, ◌≢◌, ◌≤◌, ◌+◌, ◌-◌, ◌++◌, min, take, drop, length, List, ℕ, Option, Some, None, Ok, Err, IfOk, IfErr, MatchOption, MatchResult, IsOk};
-ghost use Rattle.tr_book.specs.Parts.{part_at};
+ghost use Rattle.tr_book.specs.Parts.{part_known};
 ghost use Rattle.tr_border.specs.Outs.{counts_out, fate_out, part_out, sum_out};
 ghost use Rattle.tr_border.specs.Inputs.{config_of};
 ghost use Rattle.tr_border.specs.Texts.{CopiesOn};
@@ -77,7 +77,7 @@ pub extern "C" fn trc_stream_fate(
     DONE
 }
 
-/// How much the stream added to a trace chunk.
+/// How much the stream added to a trace chunk, if that part isn't forgotten.
 #[unsafe(no_mangle)]
 pub extern "C" fn trc_stream_part(
     alloc: Global,
@@ -86,7 +86,7 @@ pub extern "C" fn trc_stream_part(
     out: &mut PartOut,
 ) -> u32
     ensures value { MatchOption handle.old.value ((result ≡ CLOSED) × (out.new ≡ out.old))
-        (λ s. MatchOption (part_at chunk s.parts) ((result ≡ NO_PART) × (out.new ≡ out.old))
+        (λ s. MatchOption (part_known chunk s.parts) ((result ≡ NO_PART) × (out.new ≡ out.old))
         (λ p. (result ≡ DONE) × (out.new ≡ part_out p))) }
     ensures same { handle.new.value ≡ handle.old.value }
 {
@@ -115,7 +115,7 @@ pub extern "C" fn trc_stream_text(
     count: &mut u64,
 ) -> u32
     ensures value { MatchOption handle.old.value (result ≡ CLOSED)
-        (λ s. MatchOption (part_at chunk s.parts) (result ≡ NO_PART)
+        (λ s. MatchOption (part_known chunk s.parts) (result ≡ NO_PART)
         (λ p. (result ≡ DONE) × CopiesOn p.packets place.old place.new count.new room.old room.new)) }
     ensures refused { result ≢ DONE → (place.new ≡ place.old) × (count.new ≡ count.old) × (room.new ≡ room.old) }
     ensures same { handle.new.value ≡ handle.old.value }

@@ -6,13 +6,14 @@ ghost use Rattle.tr_border.specs.Codes.{code_of, given};
 ghost use Rattle.tr_border.specs.Outs.{cleared_out, cut_out, offered_out, released_out, taken_out};
 ghost use Rattle.tr_border.specs.declared.codes.TheConstants.{BAD_MOMENT, CLOSED, DONE, NO_MEMORY};
 ghost use Rattle.tr_stream.specs.Calls.{ClearsSome, ReleasesSome};
-ghost use Rattle.tr_stream.specs.Faults.{clear_fault_code, cut_fault_code, offer_fault_code, release_fault_code, take_fault_code};
-ghost use Rattle.tr_stream.specs.StateSteps.{state_after_clear, state_after_cut, state_after_offer, state_after_release, state_after_switch, state_after_take, state_clear_answer, state_cut_answer, state_offer_answer, state_release_answer, state_take_answer};
+ghost use Rattle.tr_stream.specs.Faults.{clear_fault_code, cut_fault_code, forget_fault_code, offer_fault_code, release_fault_code, take_fault_code};
+ghost use Rattle.tr_stream.specs.StateSteps.{state_after_clear, state_after_cut, state_after_forget, state_after_offer, state_after_release, state_after_switch, state_after_take, state_clear_answer, state_cut_answer, state_forget_answer, state_offer_answer, state_release_answer, state_take_answer};
 ghost use Rattle.tr_terms.specs.declared.limits.TheConstants.{LAST_MOMENT};
 
 use std::alloc::Global;
 use tr_border::codes::{
-    BAD_MOMENT, CLOSED, DONE, clear_code, cut_code, offer_code, release_code, take_code,
+    BAD_MOMENT, CLOSED, DONE, clear_code, cut_code, forget_code, offer_code, release_code,
+    take_code,
 };
 use tr_border::outs::{
     ClearedOut, CutOut, OfferedOut, ReleasedOut, TakenOut, cleared_out, cut_out, offered_out,
@@ -162,6 +163,26 @@ pub extern "C" fn trc_stream_clear(
             DONE
         }
         Err(fault) => clear_code(fault),
+    }
+}
+
+/// Forgets the closed parts below this chunk, all of which were released.
+#[unsafe(no_mangle)]
+pub extern "C" fn trc_stream_forget(alloc: Global, handle: &mut StreamCell, chunk: u64) -> u32
+    ensures closed { handle.old.value ≡ None → (result ≡ CLOSED) × (handle.new.value ≡ None) }
+    ensures value { result ≢ NO_MEMORY → MatchOption handle.old.value (result ≡ CLOSED)
+        (λ s. (result ≡ code_of forget_fault_code (state_forget_answer chunk s))
+        × (handle.new.value ≡ Some (state_after_forget chunk s))) }
+    ensures no_memory { result ≡ NO_MEMORY → handle.new.value ≡ handle.old.value }
+{
+    let Some(mut stream) = handle.take(alloc) else {
+        return CLOSED;
+    };
+    let answer = stream.forget(chunk);
+    handle.put(stream);
+    match answer {
+        Ok(()) => DONE,
+        Err(fault) => forget_code(fault),
     }
 }
 

@@ -68,7 +68,7 @@ fn write_stream<A: Allocator, B: Allocator + Copy, D: Disk>(
     let Some(stream) = session.stream(i) else {
         return Ok(());
     };
-    let Some(part) = stream.part(id) else {
+    let Some(part) = stream.kept_part(id) else {
         return Ok(());
     };
     let name = stream_file_name(alloc, &channel, i)?;

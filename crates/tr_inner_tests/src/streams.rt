@@ -3,6 +3,7 @@
 mod calls;
 mod clears;
 mod copies;
+mod forgets;
 mod gaps;
 mod looks;
 mod memory;
@@ -18,8 +19,8 @@ use tr_book::{Counts, StreamSnap};
 use tr_packet::{Head, PacketView, Packets};
 use tr_record::RecView;
 use tr_stream::{
-    ClearFault, Cleared, CutDone, CutFault, Fate, OfferFault, Offered, ReleaseFault, Released,
-    Stream, StreamConfig, TakeFault, Taken,
+    ClearFault, Cleared, CutDone, CutFault, Fate, ForgetFault, OfferFault, Offered, ReleaseFault,
+    Released, Stream, StreamConfig, TakeFault, Taken,
 };
 use tr_terms::{Geometry, Mode, SessionMode};
 use tr_testing::moment;
@@ -54,6 +55,8 @@ enum Step {
     Clear(Result<Cleared, ClearFault>),
     /// A release of the part with this number.
     Release(u64, Result<Released, ReleaseFault>),
+    /// The parts below this number are forgotten.
+    Forget(u64, Result<(), ForgetFault>),
     /// A peek at this moment. It shows the offers, the discarded records and the packets.
     Peek(u64, (u64, u64), &'static [PacketRow]),
     /// The fate of the record with this serial.
@@ -128,6 +131,7 @@ fn assert_step(rt: &impl Abort, stream: &mut Stream, place: Place, step: &Step) 
         Step::Cut(at, want) => assert_at(rt, place, stream.cut(moment(at)), want),
         Step::Clear(want) => assert_at(rt, place, stream.clear(), want),
         Step::Release(k, want) => assert_at(rt, place, stream.release(k), want),
+        Step::Forget(k, want) => assert_at(rt, place, stream.forget(k), want),
         Step::Peek(at, counts, rows) => {
             let snap = stream.peek(moment(at)).expect(rt, "a look");
             assert_look(rt, place, &snap, counts, rows);

@@ -73,10 +73,11 @@ fn judge_packets(items: &[Item], packets: Packets<'_>, least: Option<u64>) -> Op
 
 /// The least wrong serial after the records of a stream's part of chunk `k` too, if there is one.
 fn judge_part(items: &[Item], stream: &Stream, k: u64, least: Option<u64>) -> Option<u64>
+    requires { stream.now.parts.forgotten ≡ 0 }
     ensures { (part : PartState) → part_at k stream.now.parts ≡ Some part
         → Judges items.now (packet_records part.packets) least result }
 {
-    match stream.part(k) {
+    match stream.kept_part(k) {
         Some(part) => judge_packets(items, part.packets(), least),
         None => least,
     }
@@ -84,6 +85,7 @@ fn judge_part(items: &[Item], stream: &Stream, k: u64, least: Option<u64>) -> Op
 
 /// The least wrong serial of the records in a stream's parts.
 fn judge_parts(items: &[Item], stream: &Stream) -> Option<u64>
+    requires { stream.now.parts.forgotten ≡ 0 }
     ensures { Judges items.now (parts_records (all_parts stream.now.parts)) None result }
 {
     let cuts = stream.counts().cuts;
@@ -110,6 +112,7 @@ fn judge_ring(items: &[Item], stream: &Stream, least: Option<u64>) -> Option<u64
 
 /// The least serial of the records that a stream holds and that aren't logged, if any.
 pub(crate) fn least_wrong(items: &[Item], stream: &Stream) -> Option<u64>
+    requires { stream.now.parts.forgotten ≡ 0 }
     ensures { IsLeastWrong items.now (held_records stream.now) result }
 {
     judge_ring(items, stream, judge_parts(items, stream))

@@ -18,6 +18,7 @@ fn find_log(logs: &[Log], i: u64) -> Option<&Log>
 
 /// Judges the stream of number `i` by its first log.
 fn reconcile_stream(logs: &[Log], i: u64, stream: &Stream) -> Result<(), Mismatch>
+    requires { stream.now.parts.forgotten ≡ 0 }
     ensures ok { OnOk result (Agrees logs.now i stream.now) }
     ensures wrong { IfErr result (λ m. (stream_of_mismatch m ≡ i) × IsWrong logs.now stream.now m) }
 {

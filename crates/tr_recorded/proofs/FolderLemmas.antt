@@ -27,6 +27,8 @@ use Rattle.tr_survey.specs.Paths.{archives_folder, file_path, path_of}
 use Rattle.tr_survey.specs.Sessions.{namings_of}
 use Rattle.tr_survey.specs.Whole.{FollowEachOther, HasItsFiles, NumberedFrom, StandsAlone, StreamFiles, streams_in}
 use Rattle.tr_survey.specs.declared.naming.Naming.TheVariants.{Named}
+use Rattle.tr_survey.specs.Declaring.{events_in}
+use Rattle.tr_survey.specs.Streams.{trace_state}
 use Rattle.tr_terms.specs.Names.{is_name}
 
 or-true : (b : Bool) → (b || true) ≡ true
@@ -190,7 +192,7 @@ module _ (t : Tree) (dir session : List ℕ) (first : Box) (others : List Box) (
   pub stands-alone : (uuid text : List ℕ) (streams : List StreamFiles) → naming_in (Some (file_of text false)) ≡ Named uuid → is_name session ≡ true → FollowEachOther 0 (archives_in (first ∷ others))
       → HaveMetadata text (first ∷ others) → NumberedFrom 0 (streams_in streams) → HaveStreams (streams_in streams) (first ∷ others)
       → AllByRecursion (HasItsFiles t folder uuid (archives_in (first ∷ others))) streams
-      → StandsAlone t dir session uuid (archives_in (first ∷ others)) streams
+      → StandsAlone t dir session (trace_state uuid (events_in (Some (file_of text false)))) (archives_in (first ∷ others)) streams
   stands-alone uuid text streams read name follow metadata numbered have files = record {
     seen = seen dir ([], tt, refl);
     alone = alone;
@@ -205,6 +207,8 @@ module _ (t : Tree) (dir session : List ℕ) (first : Box) (others : List Box) (
       follow = follow;
       metadata = namings-are text (first ∷ others) are stored metadata
           ∙ ap (λ n. map (λ (a : Numbered). n) (archives_in (first ∷ others))) read;
+      declared = ap events_in (file-there (file_path folder first.archive.name (codes "metadata")) (to-file first (codes "metadata") are.0 refl)
+          ∙ stored.0.files (codes "metadata") ∙ metadata.0);
       streams_are = streams-are (streams_in streams) (numbers-of 0 (streams_in streams) numbered) have;
       numbered = numbered;
       files = files;

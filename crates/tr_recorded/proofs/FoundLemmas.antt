@@ -39,6 +39,8 @@ use Rattle.tr_survey.specs.Told.{told}
 use Rattle.tr_survey.specs.Whole.{HasItsFiles, LossesStay, NumberedFrom, streams_in}
 use Rattle.tr_survey.specs.declared.faults.Surveyed.TheVariants.{Faults}
 use Rattle.tr_survey.specs.declared.naming.Naming.TheVariants.{Named}
+use Rattle.tr_survey.specs.Declaring.{events_in}
+use Rattle.tr_survey.specs.Streams.{trace_state}
 use Rattle.tr_terms.specs.declared.limits.TheConstants.{LAST_MOMENT, MOST_STREAMS}
 
 -- ---- streams in order
@@ -351,13 +353,14 @@ module _ (dir metadata uuid : List ℕ) (p : Contents) (ps : List Contents) (are
       record { number = number; plain = archive-plain archive.name 0 number; leaves = plain metadata 0 streams up }
 
   pub found-whole : (asked : Bool) (t : Tree) → naming_in (Some (file_of metadata false)) ≡ Named uuid → Shows t dir (recovered_made dir metadata (p ∷ ps))
-      → survey_of asked t dir ≡ told (found_recorded_text asked uuid p ps) (Faults 0)
+      → survey_of asked t dir
+      ≡ told (found_recorded_text asked (trace_state uuid (events_in (Some (file_of metadata false)))) p ps) (Faults 0)
   found-whole asked t read shows =
       let seen : Shows t dir (boxes_made folder (box ∷ [])) = subst (Shows t dir) made-is shows in
       let are-boxes : AllByRecursion IsBox (box ∷ []) = (is-box, tt) in
       let slashless = name-plain (codes "recovered") refl in
       let leaves = files-are t dir (codes "recovered") box [] seen slashless refl are-boxes (refl, tt) in
-      whole_is asked t dir (codes "recovered") uuid (archive ∷ []) (map (found_files archive) streams)
+      whole_is asked t dir (codes "recovered") (trace_state uuid (events_in (Some (file_of metadata false)))) (archive ∷ []) (map (found_files archive) streams)
       (stands-alone t dir (codes "recovered") box [] seen slashless refl are-boxes (refl, tt) uuid metadata (map (found_files archive) streams) read refl refl
       (leaves-append (codes "metadata") (map leaf_of streams) ((codes "metadata", metadata) ∷ []), tt)
       (numbered metadata archive 0 streams up) (names metadata archive 0 streams up, tt)

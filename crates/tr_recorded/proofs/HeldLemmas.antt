@@ -26,7 +26,7 @@ held-part : (s : StreamState) (k : ℕ) → HoldsItsParts s → option_map_or pa
 held-part s k held = by_place (k == length s.parts.closed)
   where
     are : (option_map_or part_released (slice_get s.parts.closed k) 0 ≡ 0) × (part_released s.parts.current ≡ 0)
-    are = held-at s.parts.closed s.parts.current k held
+    are = held-at s.parts.closed s.parts.current k held.held
 
     by_place : (is_current : Bool)
         → option_map_or part_released (if is_current then Some s.parts.current else slice_get s.parts.closed k) 0 ≡ 0

@@ -1,8 +1,12 @@
+pub mod AgainLemmas
+pub mod AlikeLemmas
 pub mod BelowLemmas
 pub mod BoxLemmas
 pub mod FolderLemmas
 pub mod FoundLemmas
+pub mod GoesOnLemmas
 pub mod HeldLemmas
+pub mod LaterLemmas
 pub mod LeafLemmas
 pub mod ListedLemmas
 pub mod LossLemmas
@@ -10,9 +14,12 @@ pub mod MadeLemmas
 pub mod OrderLemmas
 pub mod PathLemmas
 pub mod PlainLemmas
+pub mod RestoredLemmas
+pub mod RestoredSessionLemmas
 pub mod RingLemmas
 pub mod SessionLemmas
 pub mod SetLemmas
 pub mod StoredLemmas
 pub mod TimeLemmas
 pub mod TreeLemmas
+pub mod WrittenLemmas

@@ -54,7 +54,7 @@ module _ (P : List ℕ → Bool) where
       (λ some. let f = found xs some in passes f.0 ys (sym (same f.0) ∙ f.2) f.1)
       (λ some. let f = found ys some in passes f.0 xs (same f.0 ∙ f.2) f.1)
 
-any-filtered : {X Y : Type 0} (p : Y → Bool) (h : X → Option Y) (xs : List X)
+pub any-filtered : {X Y : Type 0} (p : Y → Bool) (h : X → Option Y) (xs : List X)
     → list_any p (filter_map h xs) ≡ list_any (λ x. option_map_or p (h x) false) xs
 any-filtered p h [] = refl
 any-filtered {Y = Y} p h (x ∷ xs) =

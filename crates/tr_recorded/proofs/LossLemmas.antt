@@ -32,7 +32,7 @@ pub stay_lower : (low from : ℕ) (bs : List ClosedBuffer) → low ≤ from → 
 stay_lower low from [] le stay = tt
 stay_lower low from (b ∷ bs) le stay = (omega (arith, le, stay.0), stay.1)
 
-stay_front : (from : ℕ) (bs cs : List ClosedBuffer) → Stay from (bs ++ cs) → Stay from bs
+pub stay_front : (from : ℕ) (bs cs : List ClosedBuffer) → Stay from (bs ++ cs) → Stay from bs
 stay_front from [] cs stay = tt
 stay_front from (b ∷ bs) cs stay = (stay.0, stay_front b.discarded bs cs stay.1)
 
@@ -135,7 +135,7 @@ first_stay s k none c =
 
 -- ---- archive by archive
 
-second_of_zip : {X Y : Type 0} (xs : List X) (ys : List Y) → map (λ (r : X × Y). r.1) (zip xs ys) ≡ take (length xs) ys
+pub second_of_zip : {X Y : Type 0} (xs : List X) (ys : List Y) → map (λ (r : X × Y). r.1) (zip xs ys) ≡ take (length xs) ys
 second_of_zip [] ys = refl
 second_of_zip (x ∷ xs) [] = refl
 second_of_zip {Y = Y} (x ∷ xs) (y ∷ ys) = ap (λ (l : List Y). y ∷ l) (second_of_zip xs ys)

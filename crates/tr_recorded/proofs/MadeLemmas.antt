@@ -57,7 +57,7 @@ module _ (dir name : List ℕ) (s : SessionOf StreamState) where
       (sym (map-append (leaf_made folder archive) (leaves_of s a.id n) (metadata_leaf s)))
       ∙ ap (λ (path : List ℕ). made.Folder path ∷ map (leaf_made folder archive) (leaves_of s a.id n ++ metadata_leaf s)) (sym (folder_is dir name archive))
 
-  archive-made : (a : Archive) → archive_released by_state a.id s ≡ 0 → archive_made dir name s a ≡ box_made folder (box_of s a)
+  pub archive-made : (a : Archive) → archive_released by_state a.id s ≡ 0 → archive_made dir name s a ≡ box_made folder (box_of s a)
   archive-made a none =
       ap (λ (n : ℕ). cond (nat_eq n 0) (chunk_made (export.folder_of dir name (archive_named s.book a).name) a.id s) []) none ∙ chunk-made a
 

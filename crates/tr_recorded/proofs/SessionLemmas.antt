@@ -42,18 +42,28 @@ use Rattle.tr_survey.specs.Told.{told}
 use Rattle.tr_survey.specs.Whole.{AreRecorded, FollowEachOther, HasFiles, HasItsFiles, NumberedFrom, StandsAlone, StreamFiles, streams_in}
 use Rattle.tr_survey.specs.declared.faults.Surveyed.TheVariants.{Faults, NoSession, Unlisted}
 use Rattle.tr_survey.specs.declared.naming.Naming.TheVariants.{Named}
+use Rattle.tr_survey.specs.Declaring.{events_in}
+use Rattle.tr_survey.specs.Streams.{trace_state}
+use Rattle.tr_events.specs.Events.{Event}
 use Rattle.tr_terms.specs.Names.{is_name}
 use Rattle.tr_terms.specs.Offsets.{IsOffset}
 use Rattle.tr_terms.specs.declared.limits.TheConstants.{LAST_MOMENT, MOST_STREAMS}
 
--- an audit reads its metadata as naming its identifier
-abbrev IsReadSo : SessionOf StreamState → Type 0
-IsReadSo s = naming_in (Some (file_of (metadata_with s.book.events s.book.uuid) false)) ≡ Named s.book.uuid
+-- an audit reads its metadata as naming its identifier, and as declaring its events
+abbrev pub IsReadSo : SessionOf StreamState → Type 0
+IsReadSo s =
+    (naming_in (Some (file_of (metadata_with s.book.events s.book.uuid) false)) ≡ Named s.book.uuid)
+    × (events_in (Some (file_of (metadata_with s.book.events s.book.uuid) false)) ≡ s.book.events.events)
 
 -- what each archive has of a stream is what a survey finds no fault in
 abbrev pub Keeps : StreamState → Type 0
 Keeps t = (archives : List Numbered) → length archives ≤ length (all_parts t.parts) → NoneReleased (length archives) t
     → AreRecorded t.config.uuid t.config.number (recorded_of archives t)
+
+-- what the session's archives have of each stream is what a survey finds no fault in
+abbrev pub AreAllRecorded : SessionOf StreamState → Type 0
+AreAllRecorded s = (i : ℕ) (u : StreamState) → slice_get s.streams i ≡ Some u
+    → AreRecorded u.config.uuid u.config.number (recorded_of (archives_named s.book) u)
 
 -- ---- lists
 
@@ -77,7 +87,7 @@ all-push : {X : Type 0} (P : X → Type 0) (xs : List X) (x : X) → AllByRecurs
 all-push P [] x are is = (is, tt)
 all-push P (y ∷ xs) x are is = (are.0, all-push P xs x are.1 is)
 
-at-place : {X : Type 0} (P : X → Type 0) (xs : List X) (i : ℕ) (x : X) → AllByRecursion P xs → slice_get xs i ≡ Some x → P x
+pub at-place : {X : Type 0} (P : X → Type 0) (xs : List X) (i : ℕ) (x : X) → AllByRecursion P xs → slice_get xs i ≡ Some x → P x
 at-place P [] i x are at = absurd cc
 at-place P (y ∷ xs) zero x are at = let same : y ≡ x = cc in subst P same are.0
 at-place P (y ∷ xs) (suc i) x are at = at-place P xs i x are.1 at
@@ -109,11 +119,11 @@ module _ (s : SessionOf StreamState) (streams : (i : ℕ) → i < length s.strea
   small : length s.streams ≤ 2 ^ 64
   small = omega (arith, few)
 
-  named-in : (archives : List Archive) → archives_in (map (box_of s) archives) ≡ map (archive_named s.book) archives
+  pub named-in : (archives : List Archive) → archives_in (map (box_of s) archives) ≡ map (archive_named s.book) archives
   named-in [] = refl
   named-in (a ∷ archives) = ap (λ (l : List Numbered). archive_named s.book a ∷ l) (named-in archives)
 
-  are-boxes : (k : ℕ) (archives : List Archive) → AreWithin k archives → k + length archives ≤ length s.book.archives
+  pub are-boxes : (k : ℕ) (archives : List Archive) → AreWithin k archives → k + length archives ≤ length s.book.archives
       → AllByRecursion IsBox (map (box_of s) archives)
   are-boxes k [] own le = tt
   are-boxes k (a ∷ archives) own le =
@@ -191,22 +201,7 @@ module _ (s : SessionOf StreamState) (streams : (i : ℕ) → i < length s.strea
         )
 
     module _ (has : AllByRecursion HasItsLeaves (map (box_of s) s.book.archives)) (own : AreWithin 0 s.book.archives)
-        (keeps : (i : ℕ) (u : StreamState) → slice_get s.streams i ≡ Some u → Keeps u) (none : HasItsArchives s) where
-      held-at : (i : ℕ) (below : i < length s.streams) (j : ℕ) (p : PartState) → j < length s.book.archives
-          → slice_get (all_parts (streams i below).stream.parts) j ≡ Some p → p.released ≡ None
-      held-at i below j p within at =
-          let x = streams i below in
-          let a = some-at s.book.archives j within in
-          let number = number-at 0 s.book.archives j a.0 own a.1 in
-          let id : a.0.id ≡ j = omega (arith, number) in
-          part-held j i s x.stream p (subst (λ (n : ℕ). archive_released by_state n s ≡ 0) id (at-place (λ (b : Archive). archive_released by_state b.id s ≡ 0) s.book.archives j a.0 none a.1))
-          x.at (part-is x.stream.parts j ∙ at)
-
-      held : (i : ℕ) (below : i < length s.streams) (k : ℕ) → k ≤ length s.book.archives → NoneReleased k (streams i below).stream
-      held i below k le =
-          all-first (λ (p : PartState). p.released ≡ None) (all_parts (streams i below).stream.parts) k
-          (λ j p lt at. held-at i below j p (omega (arith, lt, le)) at)
-
+        (recorded : AreAllRecorded s) where
       one-stream : (i : ℕ) (below : i < length s.streams)
           → HasItsFiles t folder s.book.uuid (archives_named s.book) (of_parts (streams i below).channel i, recorded_of (archives_named s.book) (streams i below).stream)
       one-stream i below =
@@ -214,7 +209,7 @@ module _ (s : SessionOf StreamState) (streams : (i : ℕ) → i < length s.strea
           let archives = archives_named s.book in
           let as-many = length-map s.book.archives (archive_named s.book) in
           let parts = length-map (all_parts x.stream.parts) (λ (p : PartState). p.packets) in
-          let kept = keeps i x.stream x.at archives (omega (arith, as-many, x.parts)) (held i below (length archives) (omega (arith, as-many))) in
+          let kept = recorded i x.stream x.at in
           record {
             each = first-of-zip archives (packets_by_part x.stream) (omega (arith, as-many, parts, x.parts));
             files = files-recorded i below 0 s.book.archives (all_parts x.stream.parts) has own (omega arith)
@@ -236,11 +231,10 @@ module _ (s : SessionOf StreamState) (streams : (i : ℕ) → i < length s.strea
   -- ---- all of it
 
   module _ (own : AreWithin 0 s.book.archives) (chunk : ℕ) (chained : AreChained s.book.archives chunk) (read : IsReadSo s)
-      (keeps : (i : ℕ) (u : StreamState) → slice_get s.streams i ≡ Some u → Keeps u)
-      (none : HasItsArchives s) (t : Tree) (dir name : List ℕ) (named : is_name name ≡ true)
+      (recorded : AreAllRecorded s) (none : HasItsArchives s) (t : Tree) (dir name : List ℕ) (named : is_name name ≡ true)
       (shows : Shows t dir (archives_made dir name s)) where
     stands : (first : Archive) (others : List Archive) → s.book.archives ≡ first ∷ others
-        → StandsAlone t dir name s.book.uuid (archives_named s.book) (streams_recorded s (length s.streams))
+        → StandsAlone t dir name (trace_state s.book.uuid s.book.events.events) (archives_named s.book) (streams_recorded s (length s.streams))
     stands first others is =
         let folder = archives_folder dir name in
         let boxes = map (box_of s) (first ∷ others) in
@@ -255,20 +249,56 @@ module _ (s : SessionOf StreamState) (streams : (i : ℕ) → i < length s.strea
         let same : archives_in boxes ≡ archives_named s.book =
         named-in (first ∷ others) ∙ ap (map (archive_named s.book)) (sym is) in
         let leaves = files-are t dir name (box_of s first) (map (box_of s) others) seen plain its-name are numbered in
-        let files = files-upto t folder (subst (λ (l : List Archive). AllByRecursion (HasItsLeaves t folder) (map (box_of s) l)) (sym is) leaves) own keeps none
+        let files = files-upto t folder (subst (λ (l : List Archive). AllByRecursion (HasItsLeaves t folder) (map (box_of s) l)) (sym is) leaves) own recorded
         (length s.streams) (omega arith) in
-        subst (λ (l : List Numbered). StandsAlone t dir name s.book.uuid l (streams_recorded s (length s.streams))) same
+        subst (λ (l : List Numbered). StandsAlone t dir name (trace_state s.book.uuid s.book.events.events) l (streams_recorded s (length s.streams))) same
+        (subst (λ (es : List Event). StandsAlone t dir name (trace_state s.book.uuid es) (archives_in boxes) (streams_recorded s (length s.streams))) read.1
         (stands-alone t dir name (box_of s first) (map (box_of s) others) seen plain its-name are numbered s.book.uuid
-        (metadata_with s.book.events s.book.uuid) (streams_recorded s (length s.streams)) read named
+        (metadata_with s.book.events s.book.uuid) (streams_recorded s (length s.streams)) read.0 named
         (subst (FollowEachOther 0) (sym (named-in (first ∷ others))) (follow s.book 0 (first ∷ others) chunk (subst (λ (l : List Archive). AreChained l chunk) is chained) within))
         (have-metadata 0 (first ∷ others) within le) (numbered-upto (length s.streams) (omega arith)) (have-all 0 (first ∷ others) within le)
-        (subst (λ (l : List Numbered). AllByRecursion (HasItsFiles t folder s.book.uuid l) (streams_recorded s (length s.streams))) (sym same) files))
+        (subst (λ (l : List Numbered). AllByRecursion (HasItsFiles t folder s.book.uuid l) (streams_recorded s (length s.streams))) (sym same) files)))
 
     told-whole : (asked : Bool) (archives : List Archive) → s.book.archives ≡ archives → archives ≢ []
         → survey_of asked t dir ≡ told (session_recorded_text asked name s) (Faults 0)
     told-whole asked [] is some = absurd (some refl)
     told-whole asked (first ∷ others) is some =
-        whole_is asked t dir name s.book.uuid (archives_named s.book) (streams_recorded s (length s.streams)) (stands first others is)
+        whole_is asked t dir name (trace_state s.book.uuid s.book.events.events) (archives_named s.book) (streams_recorded s (length s.streams)) (stands first others is)
+
+-- a session whose streams are recorded without a fault
+pub whole-recorded : (s : SessionOf StreamState) → IsBook s.book → s.book.begin ≤ LAST_MOMENT → IsOffset s.book.offset → (IsShort s.book.events s.book.uuid → IsReadSo s)
+    → length s.book.archives ≤ 2 ^ 64 → length s.streams ≤ MOST_STREAMS → HasItsStreams s → AreAllRecorded s
+    → (asked : Bool) (t : Tree) (dir name : List ℕ) → is_name name ≡ true → s.book.archives ≢ [] → HasItsArchives s
+    → IsShort s.book.events s.book.uuid → Shows t dir (archives_made dir name s)
+    → survey_of asked t dir ≡ told (session_recorded_text asked name s) (Faults 0)
+whole-recorded s book begin offset read few streams its recorded asked t dir name named some none short shows =
+    let more = archive_pending s.book.pending in
+    let time = book-within s.book.archives more s.book.begin book.5.0 begin book.2.0 few in
+    told-whole s (stream-at s its book.4) streams offset time.0 (first_begin more s.book.begin) time.1 (read short) recorded none t dir name named shows
+    asked s.book.archives refl some
+
+-- one whose streams keep what they took, none of which was released
+module _ (s : SessionOf StreamState) (book : IsBook s.book) (its : HasItsStreams s)
+    (keeps : (i : ℕ) (u : StreamState) → slice_get s.streams i ≡ Some u → Keeps u) (none : HasItsArchives s) where
+  held-at : (i : ℕ) (u : StreamState) → slice_get s.streams i ≡ Some u → (j : ℕ) (p : PartState) → j < length s.book.archives
+      → slice_get (all_parts u.parts) j ≡ Some p → p.released ≡ None
+  held-at i u here j p within at =
+      let a = some-at s.book.archives j within in
+      part-held j i s u p (subst (λ (n : ℕ). archive_released by_state n s ≡ 0) (book.2.0 j a.0 a.1) (at-place (λ (b : Archive). archive_released by_state b.id s ≡ 0) s.book.archives j a.0 none a.1))
+      here (part-is u.parts j ∙ at)
+
+  held : (i : ℕ) (u : StreamState) → slice_get s.streams i ≡ Some u → (k : ℕ) → k ≤ length s.book.archives → NoneReleased k u
+  held i u here k le =
+      all-first (λ (p : PartState). p.released ≡ None) (all_parts u.parts) k
+      (λ j p lt at. held-at i u here j p (omega (arith, lt, le)) at)
+
+  all-recorded : AreAllRecorded s
+  all-recorded i u here =
+      let archives = archives_named s.book in
+      let as-many = length-map s.book.archives (archive_named s.book) in
+      let of = its.are i u here in
+      let parts = length-append u.parts.closed (u.parts.current ∷ []) in
+      keeps i u here archives (omega (arith, as-many, of.closed, parts)) (held i u here (length archives) (omega (arith, as-many)))
 
 -- a session whose streams keep what they took
 pub whole-session : (s : SessionOf StreamState) → IsBook s.book → s.book.begin ≤ LAST_MOMENT → IsOffset s.book.offset → (IsShort s.book.events s.book.uuid → IsReadSo s)
@@ -278,10 +308,7 @@ pub whole-session : (s : SessionOf StreamState) → IsBook s.book → s.book.beg
     → IsShort s.book.events s.book.uuid → Shows t dir (archives_made dir name s)
     → survey_of asked t dir ≡ told (session_recorded_text asked name s) (Faults 0)
 whole-session s book begin offset read few streams its keeps asked t dir name named some none short shows =
-    let more = archive_pending s.book.pending in
-    let time = book-within s.book.archives more s.book.begin book.5.0 begin book.2.0 few in
-    told-whole s (stream-at s its book.4) streams offset time.0 (first_begin more s.book.begin) time.1 (read short) keeps none t dir name named shows
-    asked s.book.archives refl some
+    whole-recorded s book begin offset read few streams its (all-recorded s book its keeps none) asked t dir name named some none short shows
 
 -- ---- without an archive
 

@@ -39,7 +39,7 @@ or-true : (b : Bool) → (b || true) ≡ true
 or-true true = refl
 or-true false = refl
 
-files-append : (path : List ℕ) (xs ys : Makings) → file_made path (xs ++ ys) ≡ option_or (file_made path ys) (file_made path xs)
+pub files-append : (path : List ℕ) (xs ys : Makings) → file_made path (xs ++ ys) ≡ option_or (file_made path ys) (file_made path xs)
 files-append path [] ys = sym (or-none (file_made path ys))
 files-append path (m ∷ xs) ys =
     ap (λ (o : Option File). option_or o (file_at path m)) (files-append path xs ys)
@@ -66,7 +66,7 @@ own-files folder name file (l ∷ ls) =
     (same-front folder (47 ∷ (name ++ (47 ∷ file))) (47 ∷ (name ++ (47 ∷ l.0))) ∙ same-front name (47 ∷ file) (47 ∷ l.0))
     ∙ ap (λ (o : Option File). option_or o (cond (pointwise eqb file l.0) (Some (file_of l.1 false)) None)) (own-files folder name file ls)
 
-own : (folder : List ℕ) (b : Box) → IsBox b → IsStored folder (box_made folder b) b
+pub own : (folder : List ℕ) (b : Box) → IsBox b → IsStored folder (box_made folder b) b
 own folder b is = record {
   names = ap (λ (o : Option (List ℕ)). cons_option o (names_made (path_of folder b.archive.name) (map (leaf_made folder b.archive.name) b.leaves)))
       (own-folder folder b.archive.name is.plain)

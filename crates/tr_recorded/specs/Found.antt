@@ -8,6 +8,7 @@ use Rattle.tr_packet.specs.Packets.{Contents}
 use Rattle.tr_recover.specs.Archive.{StreamPackets, earliest, latest, parted, streams_found}
 use Rattle.tr_survey.specs.Names.{of_parts}
 use Rattle.tr_survey.specs.Order.{Numbered}
+use Rattle.tr_survey.specs.Streams.{TraceState}
 use Rattle.tr_survey.specs.Whole.{LossesStay, StreamFiles, recorded_text}
 use Rattle.tr_terms.specs.declared.limits.TheConstants.{MOST_STREAMS}
 
@@ -32,6 +33,6 @@ abbrev pub found_files : Numbered → StreamPackets → StreamFiles
 found_files archive s = (of_parts (codes "ring") s.0, (archive, s.1) ∷ [])
 
 -- what is reported of them: one archive, and streams from number 0 up to the last one that has packets
-abbrev pub found_recorded_text : Bool → List ℕ → Contents → List Contents → List ℕ
-found_recorded_text asked uuid p ps =
-    recorded_text asked (codes "recovered") uuid (found_archive p ps ∷ []) (map (found_files (found_archive p ps)) (streams_found (p ∷ ps)))
+abbrev pub found_recorded_text : Bool → TraceState → Contents → List Contents → List ℕ
+found_recorded_text asked from p ps =
+    recorded_text asked (codes "recovered") from (found_archive p ps ∷ []) (map (found_files (found_archive p ps)) (streams_found (p ∷ ps)))

@@ -14,6 +14,7 @@ use Rattle.tr_stream.specs.Rules.{by_state}
 use Rattle.tr_stream.specs.State.{StreamState}
 use Rattle.tr_survey.specs.Names.{of_parts}
 use Rattle.tr_survey.specs.Order.{Numbered}
+use Rattle.tr_survey.specs.Streams.{trace_state}
 use Rattle.tr_survey.specs.Whole.{Recorded, StreamFiles, recorded_text}
 
 -- none of its first k parts was released
@@ -49,7 +50,7 @@ streams_recorded s zero = []
 streams_recorded s (suc i) =
     streams_recorded s i ++ stream_recorded (archives_named s.book) i (channel_of i s.book) (slice_get s.streams i)
 
--- what is reported of a session of this name: its archives and streams, and what each stream lost
+-- what is reported of a session of this name: its archives and streams, and what each stream lost, with its events' names
 abbrev pub session_recorded_text : Bool → List ℕ → SessionOf StreamState → List ℕ
 session_recorded_text asked name s =
-    recorded_text asked name s.book.uuid (archives_named s.book) (streams_recorded s (length s.streams))
+    recorded_text asked name (trace_state s.book.uuid s.book.events.events) (archives_named s.book) (streams_recorded s (length s.streams))

@@ -12,6 +12,13 @@
 //!   folders that list what was made in them, in any order, and nothing else (`what_is_written_is_whole`: `whole` (`Shows`,
 //!   `session_recorded_text`), `held`, `none`; `tr_survey::a_recorded_session_is_whole` (`StandsAlone`);
 //!   `a_tree_shows_what_was_made`).
+//! - So is what is made of it at several times in the same folder, whatever is called in between, and whichever archives are
+//!   released that were written before, if an archive has all its parts when it is first written. The survey says what it would
+//!   say of the last value had nothing been released: all archives, and of each stream its packets in order, and what was lost
+//!   between them (`what_is_written_again_is_whole` (`AreWritten`, `all_restored`)).
+//! - What a session's calls make of it is a later value, in which closed chunks keep what they have (`every_later_session`:
+//!   `events`, `further`, `start`, `stop`, `rotate`, `next`, `held_up`, `schedule`, `tick`, `clear`, `cleared_some`, `release`,
+//!   `released_some`, `snapshot` (`IsLater`, `GoesOn`); `every_session_is_one` (`IsSession`)).
 //! - The packets of a stream's parts, none of which was released, are what tr_survey finds no fault in, one archive after
 //!   another: packets of this trace and stream, whose numbers and serials rise, and whose counts of discarded records don't
 //!   fall (`every_stream_is_recorded` (`AreRecorded`)).
@@ -33,5 +40,6 @@ mod laws;
 
 pub use laws::{
     a_ring_is_passed, a_tree_shows_what_was_made, archives_are_read_where_they_are_written,
-    every_stream_is_recorded, what_is_recovered_is_whole, what_is_written_is_whole,
+    every_later_session, every_session_is_one, every_stream_is_recorded,
+    what_is_recovered_is_whole, what_is_written_again_is_whole, what_is_written_is_whole,
 };

@@ -59,4 +59,5 @@ fate_text (Some fate.Discarded) = codes "discarded"
 fate_text (Some fate.Overwritten) = codes "overwritten"
 fate_text (Some (fate.InRing seq)) = codes "in ring " ++ decimal seq
 fate_text (Some (fate.Cleared seq)) = codes "cleared " ++ decimal seq
+fate_text (Some fate.Forgotten) = codes "forgotten"
 fate_text (Some (fate.InChunk chunk seq)) = codes "in chunk " ++ (decimal chunk ++ (32 ∷ decimal seq))

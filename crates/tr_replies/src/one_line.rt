@@ -83,6 +83,7 @@ pub fn fate_line<A: Allocator + Copy>(
         None => return Ok(ReplyText::Constant("not offered\n")),
         Some(Fate::Discarded) => return Ok(ReplyText::Constant("discarded\n")),
         Some(Fate::Overwritten) => return Ok(ReplyText::Constant("overwritten\n")),
+        Some(Fate::Forgotten) => return Ok(ReplyText::Constant("forgotten\n")),
         Some(Fate::InRing { seq }) => words_and_numbers(alloc, &[("in ring ", seq)])?,
         Some(Fate::Cleared { seq }) => words_and_numbers(alloc, &[("cleared ", seq)])?,
         Some(Fate::InChunk { chunk, seq }) => {

@@ -92,7 +92,7 @@ module _ (table : TableId) (s : StreamState) (made : ℕ) (before after : Journa
       → after ≡ journal_after who (switch_step active) before → IsKeptAccount table t made after
   kept-switch t who active desk same is =
       noted who (switch_step active) t (state_after_switch active s) is same
-      (journal-switch before.lines s was.lines_are who active desk) was.held
+      (journal-switch before.lines s was.lines_are who active desk) (record { held = was.held.held; known = was.held.known })
 
 -- what a producer's seat has
 pub account-of : {made : ℕ} → (table : TableId) (s : StreamState) (account : JournalState StreamStep) (seat : SeatState StreamStep)

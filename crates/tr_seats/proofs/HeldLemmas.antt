@@ -1,4 +1,4 @@
--- No call of a slot releases a part of its stream.
+-- No call of a slot releases a part of its stream, or forgets one.
 use Rattle.std.proofs.Common.{◌≡◌, ℕ, List, [], ◌∷◌, ◌++◌, Option, Some, None, refl, subst, sym}
 use Rattle.std.specs.List.{AllByRecursion}
 use Rattle.tr_book.specs.Parts.{PartState}
@@ -24,11 +24,11 @@ closed-held (p ∷ ps) current held = let others = closed-held ps current held.1
 
 -- a stream that nothing was done with
 pub held-new : (s : StreamState) → IsUnused s → HoldsItsParts s
-held-new s unused = subst HoldsItsParts (sym unused) (refl, tt)
+held-new s unused = subst HoldsItsParts (sym unused) (record { held = (refl, tt); known = refl })
 
 module _ (s : StreamState) (held : HoldsItsParts s) where
   was : AllByRecursion IsHeld s.parts.closed × IsHeld s.parts.current
-  was = closed-held s.parts.closed s.parts.current held
+  was = closed-held s.parts.closed s.parts.current held.held
 
   by_mode : (after : StreamState) → HoldsItsParts after → (mode : SessionMode) → HoldsItsParts (by_session_mode mode after s)
   by_mode after is Local = is
@@ -36,21 +36,23 @@ module _ (s : StreamState) (held : HoldsItsParts s) where
 
   unless : (why : Option OfferFault) (e : Entry) → HoldsItsParts (state_unless why e s)
   unless (Some fault) e = held
-  unless None e = held
+  unless None e = record { held = held.held; known = held.known }
 
   pub held-offer : (moment id : ℕ) (payload : List ℕ) → HoldsItsParts (state_after_offer moment id payload s)
   held-offer moment id payload = unless (refusal_of _ s) (state_entry moment id payload s)
 
   moved : (waiting : List ClosedBuffer) → HoldsItsParts (move_oldest waiting s)
   moved [] = held
-  moved (b ∷ bs) = all_push IsHeld s.parts.closed _ was.0 was.1
+  moved (b ∷ bs) = record { held = all_push IsHeld s.parts.closed _ was.0 was.1; known = held.known }
 
   pub held-take : HoldsItsParts (state_after_take s)
   held-take = by_mode (move_oldest s.ring.waiting s) (moved s.ring.waiting) s.config.session
 
   pub held-cut : (moment : ℕ) → HoldsItsParts (state_after_cut moment s)
   held-cut moment =
-      by_mode (state_cut_ring _ s) (all_push IsHeld _ _ (all_push IsHeld s.parts.closed _ was.0 was.1) refl) s.config.session
+      by_mode (state_cut_ring _ s)
+      (record { held = all_push IsHeld _ _ (all_push IsHeld s.parts.closed _ was.0 was.1) refl; known = held.known }) s.config.session
 
   pub held-clear : HoldsItsParts (state_after_clear s)
-  held-clear = by_mode (state_clear_ring s) (all_push IsHeld s.parts.closed _ was.0 refl) s.config.session
+  held-clear =
+      by_mode (state_clear_ring s) (record { held = all_push IsHeld s.parts.closed _ was.0 refl; known = held.known }) s.config.session

@@ -20,13 +20,12 @@ use Rattle.tr_journal.specs.Whole.{numbers_of}
 use Rattle.tr_journal.specs.declared.rule.Line.{Line}
 use Rattle.tr_journal.specs.declared.rule.Part.{Part}
 use Rattle.tr_operations.specs.Operations.{IsOperatorOf}
-use Rattle.tr_operations.specs.declared.step.DeskStep.{DeskStep}
 use Rattle.tr_seats.specs.Accounts.{AreTakeSeats, IsKeptAccount, IsSeatAt, taken_by}
 use Rattle.tr_seats.specs.Books.{Books, books_at}
 use Rattle.tr_seats.specs.Drainers.{DrainerState, taken_at}
 use Rattle.tr_seats.specs.Histories.{AreDeskWith, IsDeskWith, IsHistoryOf, operations_in, takes_joined, takes_of}
-use Rattle.tr_seats.specs.Operators.{AreOfOneSeat, HaveDone}
-use Rattle.tr_seats.specs.Settling.{AreAllMade, HasOperated, HaveHistories, HaveOneHistory, IsOneEach, WasOperated, streams_of}
+use Rattle.tr_seats.specs.Operators.{HasItsOwn, HaveDone, OperatorState}
+use Rattle.tr_seats.specs.Settling.{AreAllMade, HasOperated, HaveHistories, HaveOneHistory, HaveOperated, IsOneEach, WasOperated, streams_of}
 use Rattle.tr_seats.specs.Slots.{ProducerState, SlotState, producer_state, slot_state}
 use Rattle.tr_session_book.specs.Book.{SessionBookState}
 use Rattle.tr_stream.specs.State.{StreamState}
@@ -224,7 +223,7 @@ their-histories n books producers drainers operations seats slots long wide are 
     (λ j. (are.taken q.number d (omega (arith, within, wide)) j, did q.number d within j, sym at j)) (own k p d s lt)
 
 -- without operators
-pub nobodys : (planned book : SessionBookState) (operators : List (List DeskStep)) (all : Bool) (producers : List ProducerState)
+pub nobodys : (planned book : SessionBookState) (operators : List OperatorState) (all : Bool) (producers : List ProducerState)
     (drainers : List DrainerState) (streams : List StreamState) → HaveOneHistory planned operators all producers drainers book streams
     → HaveOneHistory planned [] false producers drainers book streams
 nobodys planned book operators all producers drainers streams h = record {
@@ -236,11 +235,22 @@ nobodys planned book operators all producers drainers streams h = record {
 
 -- ---- each operator's part of it
 
-pub each-operator : (planned book : SessionBookState) (operators : List (List DeskStep)) (all : Bool) (operations : List (List StreamStep))
-    → HaveDone planned operators all book operations → AllByRecursion (λ steps. IsOperatorOf planned steps book) operators
+pub each-operator : (planned book : SessionBookState) (operators : List OperatorState) (all : Bool) (operations : List (List StreamStep))
+    → HaveDone planned operators all book operations → AllByRecursion (λ (o : OperatorState). IsOperatorOf planned o.steps book) operators
 each-operator planned book operators all operations h =
-    all-more (AreOfOneSeat h.lines) (λ steps. IsOperatorOf planned steps book)
-    (λ steps is. record { lines = h.lines; leads = h.leads; who = is.0; own = is.1 }) operators h.own
+    all-more (HasItsOwn h.lines) (λ (o : OperatorState). IsOperatorOf planned o.steps book)
+    (λ o is. record { lines = h.lines; leads = h.leads; who = o.number; own = is }) operators h.own
+
+-- what was done to each stream but offers and takes
+pub each-operated : (planned book : SessionBookState) (operators : List OperatorState) (all : Bool) (streams : List StreamState)
+    → HaveOperated planned operators all book streams
+    → AllByRecursion (λ (o : OperatorState). HasOperated planned o.steps book streams) operators
+each-operated planned book operators all streams h =
+    all-more (HasItsOwn h.done.lines) (λ (o : OperatorState). HasOperated planned o.steps book streams)
+    (λ o is. record { lines = h.done.lines; leads = h.done.leads; who = o.number; own = is; streams_are = was }) operators h.done.own
+  where
+    was : (i : ℕ) (t : StreamState) → i < length streams → WasOperated i (all_done h.done.lines) planned book (get_or streams i t)
+    was i t lt = record { operations = get_or h.operations i []; did = h.done.did i (omega (arith, lt, h.many)); are = h.are i t lt }
 
 counted-found : (i : ℕ) (ps : List ProducerState) → 1 ≤ counted i ps
     → (k : ℕ) × (k < length ps) × ((d : ProducerState) → (get_or ps k d).number ≡ i)
@@ -254,26 +264,22 @@ counted-found i (p ∷ ps) is =
     (suc rest.0, omega (arith, rest.1), λ d. rest.2 d))
     (eqb_tells p.number i)
 
--- what was done to each stream but offers and takes
-pub each-operated : (planned book : SessionBookState) (operators : List (List DeskStep)) (all : Bool) (producers : List ProducerState)
+-- of a session that was settled
+pub settled-operated : (planned book : SessionBookState) (operators : List OperatorState) (all : Bool) (producers : List ProducerState)
     (drainers : List DrainerState) (streams : List StreamState) → HaveOneHistory planned operators all producers drainers book streams
-    → IsOneEach (length streams) producers → AllByRecursion (λ steps. HasOperated planned steps book streams) operators
-each-operated planned book operators all producers drainers streams h one_each =
-    all-more (AreOfOneSeat h.done.lines) (λ steps. HasOperated planned steps book streams)
-    (λ steps is. record { lines = h.done.lines; leads = h.done.leads; who = is.0; own = is.1; streams_are = was }) operators h.done.own
-  where
-    was : (i : ℕ) (t : StreamState) → i < length streams → WasOperated i (all_done h.done.lines) planned book (get_or streams i t)
-    was i t lt =
-        let p : ProducerState = producer_state 0 0 0 0 0 0 [] in
-        let found = counted-found i producers (omega (arith, one_each i lt)) in
-        let history = h.histories found.0 p t found.1 in
-        let here = found.2 p in
-        record {
-          operations = get_or h.operations i [];
-          did = h.done.did i (omega (arith, lt, h.many));
-          are = record {
-            all = all_done history.lines;
-            accounted = subst (λ n. IsAccounted (all_done history.lines) (get_or streams n t)) here history.journal.accounted;
-            operations = history.operations ∙ ap (λ n. get_or h.operations n []) here;
-          };
-        }
+    → IsOneEach (length streams) producers → AllByRecursion (λ (o : OperatorState). HasOperated planned o.steps book streams) operators
+settled-operated planned book operators all producers drainers streams h one_each = each-operated planned book operators all streams (record {
+  operations = h.operations;
+  many = h.many;
+  done = h.done;
+  are = λ i t lt.
+      let p : ProducerState = producer_state 0 0 0 0 0 0 [] in
+      let found = counted-found i producers (omega (arith, one_each i lt)) in
+      let history = h.histories found.0 p t found.1 in
+      let here = found.2 p in
+      record {
+        all = all_done history.lines;
+        accounted = subst (λ n. IsAccounted (all_done history.lines) (get_or streams n t)) here history.journal.accounted;
+        operations = history.operations ∙ ap (λ n. get_or h.operations n []) here;
+      };
+})

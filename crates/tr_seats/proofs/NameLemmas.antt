@@ -9,7 +9,7 @@ use Rattle.atomic_table.specs.Seated.{TableId}
 use Rattle.tr_ledger.specs.Ledgers.{LedgerState, SeatState, ledger_state, seat_state}
 use Rattle.tr_seats.proofs.Rows.{amounts-grown, cleared-at, consumed-at, cuts-at, new-grown, row-grown}
 use Rattle.tr_seats.specs.Books.{AreBooksOf, Books, IsPlan, IsPlanned, PlanState, books_of, cleared_books, consumed_books, cut_books, no_books, no_table}
-use Rattle.tr_seats.specs.Desks.{IsDesk, desk_state}
+use Rattle.tr_seats.specs.Desks.{IsDesk, desk_state, noted_state}
 use Rattle.tr_seats.specs.Plans.{AreNamed, AreUnused, IsOpened, IsUnused, opened_of, slots_from}
 use Rattle.tr_seats.specs.Seats.{AreSeatsOfProducer}
 use Rattle.tr_seats.specs.Settling.{opened_state}
@@ -158,7 +158,7 @@ module _ (plan : PlanState) (slots : List SlotState) (producers : List ProducerS
           ∙ sym none ∙ closed;
     }
 
-    pub opened-planned : opened_state (desk_state plan.session.book 0 (amounts_of consumed) (amounts_of cuts) (amounts_of cleared)) slots ≡ opened_of plan
+    pub opened-planned : opened_state (desk_state (noted_state plan.session.book 0) 0 (amounts_of consumed) (amounts_of cuts) (amounts_of cleared)) slots ≡ opened_of plan
     opened-planned =
         let streams : take (length slots) plan.session.streams ≡ plan.session.streams =
         take-all plan.session.streams (length slots) (all ∙ planned.books) in
@@ -167,7 +167,7 @@ module _ (plan : PlanState) (slots : List SlotState) (producers : List ProducerS
         let consumed_is : amounts_of consumed ≡ replicate (length plan.books) 0 = is.consumed_none ∙ none in
         let cuts_is : amounts_of cuts ≡ replicate (length plan.books) 0 = is.cuts_none ∙ none in
         let cleared_is : amounts_of cleared ≡ replicate (length plan.books) 0 = is.cleared_none ∙ none in
-        λ j. opened_state (desk_state plan.session.book 0 (consumed_is j) (cuts_is j) (cleared_is j)) (slots_are j)
+        λ j. opened_state (desk_state (noted_state plan.session.book 0) 0 (consumed_is j) (cuts_is j) (cleared_is j)) (slots_are j)
 
 -- nothing is left of a list
 pub drop-none : {X : Type 0} (xs rest : List X) (k : ℕ) → drop k xs ≡ rest → length rest ≡ 0 → k ≤ length xs → k ≡ length xs

@@ -1,5 +1,5 @@
 -- A desk's journal after a step more.
-use Rattle.std.proofs.Common.{◌≡◌, ◌≢◌, ◌∙◌, ℕ, ◌+◌, ◌<◌, Bool, true, false, List, [], ◌∷◌, ◌++◌, ap, append_assoc, arith, eq-eqb, eqb, get_or, get_or-set_other, get_or-set_same, length, ne_eqb, refl, set, subst, sym, ⊎_elim}
+use Rattle.std.proofs.Common.{◌≡◌, ◌≢◌, ◌∙◌, ℕ, ◌+◌, ◌<◌, Bool, true, false, List, [], ◌∷◌, ◌++◌, ap, append_assoc, arith, eq-eqb, eqb, get_or, get_or-set_other, get_or-set_same, inl, length, ne_eqb, refl, set, subst, sym, ⊎_elim}
 use Rattle.std.specs.Prelude.{◌==◌, IsTrue, if◌then◌else◌, slice_index_or}
 use Rattle.std.specs.List.{AllByRecursion}
 use Rattle.std.proofs.lemmas.Bool.Decides.{eqb_tells}
@@ -7,7 +7,7 @@ use Rattle.std.proofs.lemmas.List.{append-nil, get_or-map, get_or_push, length-m
 use Rattle.tr_accounts.proofs.Lists.{all-both}
 use Rattle.tr_accounts.specs.Seats.{desk_seat}
 use Rattle.tr_accounts.specs.declared.step.StreamStep.{StreamStep}
-use Rattle.tr_journal.specs.Journals.{IsSeatOf, JournalState, SeatState, journal_after, new_seat, seat_after}
+use Rattle.tr_journal.specs.Journals.{JournalState, SeatState, journal_after, new_seat, seat_after}
 use Rattle.tr_journal.specs.Views.{all_done, line}
 use Rattle.tr_journal.specs.declared.rule.Line.{Line}
 use Rattle.tr_operations.proofs.OperationLemmas.{leads-more, leads-new}
@@ -16,11 +16,13 @@ use Rattle.tr_operations.specs.declared.step.DeskStep.{DeskStep}
 use Rattle.tr_seats.proofs.Rows.{get-front}
 use Rattle.tr_seats.specs.Accounts.{IsOperatedBy, IsSeatAt}
 use Rattle.tr_seats.specs.Books.{Books, PlanState, books_at, no_table}
+use Rattle.tr_seats.specs.Desks.{noted_state}
 use Rattle.tr_seats.specs.Histories.{operations_in}
-use Rattle.tr_seats.specs.Operators.{AreNewDeskSeats, AreOfOneSeat, AreOperators, DidAll, DoTo, HaveDone, IsCountOf, IsDeskJournal, IsDeskSeat, done_to}
-use Rattle.tr_seats.specs.Settling.{HasOperated, streams_of}
+use Rattle.tr_seats.specs.Operators.{AreNewDeskSeats, AreOperators, DidAll, DoTo, HasItsOwn, HaveDone, IsDeskJournal, IsDeskSeat, IsNumber, OperatorState, done_to, operators_of}
+use Rattle.tr_seats.specs.Settling.{HaveOperated, streams_of}
 use Rattle.tr_seats.specs.Slots.{SlotState, slot_state}
 use Rattle.tr_session_book.specs.Book.{SessionBookState}
+use Rattle.tr_stream.specs.State.{StreamState}
 
 -- ---- what steps do to a stream
 
@@ -62,7 +64,7 @@ pub journal-planned : (plan : PlanState) (book : SessionBookState) (journal : Jo
 journal-planned plan book journal seats at none one same new = record {
   table_is = at;
   first = omega (arith, one);
-  count = λ lt. one;
+  count = inl (omega (arith, one));
   theirs = subst (AreOperators journal.made) (sym none) (record { numbered = tt; named = tt });
   leads = subst (λ lines. LeadsTo (all_done lines) planned book) (sym none) (subst (LeadsTo [] planned) (sym same) (leads-new planned));
   many = new.many;
@@ -94,7 +96,7 @@ module _ (plan : PlanState) (operators : ℕ) (b c : SessionBookState) (before a
   step-noted news many each = record {
     table_is = ap (λ (j : JournalState DeskStep). j.table) is ∙ was.table_is;
     first = subst (λ (j : JournalState DeskStep). 0 < j.made) (sym is) was.first;
-    count = subst (λ (j : JournalState DeskStep). IsCountOf operators j.made) (sym is) was.count;
+    count = subst (λ (j : JournalState DeskStep). IsNumber operators (operators_of j.made)) (sym is) was.count;
     theirs = subst (λ (j : JournalState DeskStep). AreOperators j.made j.lines) (sym is) (record {
       numbered = all-both (λ (l : Line DeskStep). l.who < before.made) before.lines (line who step ∷ []) was.theirs.numbered (there, tt);
       named = all-both (λ (l : Line DeskStep). 0 < l.who) before.lines (line who step ∷ []) was.theirs.named (named, tt);
@@ -165,33 +167,17 @@ new-desk-more n books seats seat is mine none = record {
     IsNew : ℕ → SeatState StreamStep → Type 0
     IsNew k s = IsSeatAt (books_at books k).journal desk_seat s × (s.own ≡ [])
 
--- ---- what a desk did to all streams
+-- ---- what a desk did
 
-pub operated-all : (plan : PlanState) (operators : ℕ) (book : SessionBookState) (journal : JournalState DeskStep) (seat : SeatState DeskStep)
-    (seats : List (SeatState StreamStep)) (slots : List SlotState) → IsDeskJournal plan operators book journal seats → IsSeatOf journal seat
-    → length slots ≡ length plan.books
-    → ((i : ℕ) (d : SeatState StreamStep) (s : SlotState) → i < length slots → IsOperatedBy (get_or seats i d).own (get_or slots i s).stream)
-    → HasOperated plan.session.book seat.own book (streams_of slots)
-operated-all plan operators book journal seat seats slots is own many operated = record {
-  lines = journal.lines;
-  leads = is.leads;
-  who = seat.who;
-  own = own.each.0.1;
-  streams_are = λ i t lt.
-      let d : SeatState StreamStep = new_seat no_table 0 in
-      let s : SlotState = slot_state 0 t 0 in
-      let there : i < length slots = omega (arith, lt, length-map slots (λ (s : SlotState). s.stream)) in
-      record {
-        operations = (get_or seats i d).own;
-        did = (is.each i d (omega (arith, there, many))).did;
-        are = subst (IsOperatedBy (get_or seats i d).own) (sym (get_or-map (λ (s : SlotState). s.stream) slots i s t there)) (operated i d s there);
-      };
-}
+-- a noted step makes no operator
+pub noted-same : (b : SessionBookState) (before after : JournalState DeskStep) (who : ℕ) (step : DeskStep) → after ≡ journal_after who step before
+    → noted_state b (operators_of after.made) ≡ noted_state b (operators_of before.made)
+noted-same b before after who step is = ap (λ (j : JournalState DeskStep). noted_state b (operators_of j.made)) is
 
 -- what was done at a desk, if these operators' lists are of its journal
 pub done-by-all : (plan : PlanState) (made : ℕ) (book : SessionBookState) (journal : JournalState DeskStep) (seats : List (SeatState StreamStep))
-    (operators : List (List DeskStep)) (all : Bool) → IsDeskJournal plan made book journal seats
-    → AllByRecursion (AreOfOneSeat journal.lines) operators → (IsTrue all → DidAll operators journal.lines)
+    (operators : List OperatorState) (all : Bool) → IsDeskJournal plan made book journal seats
+    → AllByRecursion (HasItsOwn journal.lines) operators → (IsTrue all → DidAll operators journal.lines)
     → HaveDone plan.session.book operators all book (operations_in seats)
 done-by-all plan made book journal seats operators all is own none_missing = record {
   lines = journal.lines;
@@ -203,4 +189,23 @@ done-by-all plan made book journal seats operators all is own none_missing = rec
       let there : i < length seats = omega (arith, lt, length-map seats (λ (s : SeatState StreamStep). s.own)) in
       subst (DoTo i (all_done journal.lines) plan.session.book book)
       (sym (get_or-map (λ (s : SeatState StreamStep). s.own) seats i d [] there)) (is.each i d (omega (arith, there, is.many))).did;
+}
+
+-- and to all streams
+pub operated-all : (plan : PlanState) (made : ℕ) (book : SessionBookState) (journal : JournalState DeskStep) (seats : List (SeatState StreamStep))
+    (operators : List OperatorState) (all : Bool) (slots : List SlotState) → IsDeskJournal plan made book journal seats
+    → AllByRecursion (HasItsOwn journal.lines) operators → (IsTrue all → DidAll operators journal.lines) → length slots ≡ length plan.books
+    → ((i : ℕ) (d : SeatState StreamStep) (s : SlotState) → i < length slots → IsOperatedBy (get_or seats i d).own (get_or slots i s).stream)
+    → HaveOperated plan.session.book operators all book (streams_of slots)
+operated-all plan made book journal seats operators all slots is own none_missing many operated = record {
+  operations = operations_in seats;
+  many = length-map seats (λ (s : SeatState StreamStep). s.own) ∙ is.many ∙ sym many ∙ sym (length-map slots (λ (s : SlotState). s.stream));
+  done = done-by-all plan made book journal seats operators all is own none_missing;
+  are = λ i t lt.
+      let d : SeatState StreamStep = new_seat no_table 0 in
+      let s : SlotState = slot_state 0 t 0 in
+      let there : i < length slots = omega (arith, lt, length-map slots (λ (s : SlotState). s.stream)) in
+      let seat = get_or-map (λ (s : SeatState StreamStep). s.own) seats i d [] (omega (arith, there, many, is.many)) in
+      let slot = get_or-map (λ (s : SlotState). s.stream) slots i s t there in
+      subst (λ (x : List StreamStep × StreamState). IsOperatedBy x.0 x.1) (λ j. (sym seat j, sym slot j)) (operated i d s there);
 }

@@ -1,5 +1,5 @@
 -- A session whose seats were settled has its streams.
-use Rattle.std.proofs.Common.{◌≡◌, ℕ, ◌<◌, length, get_or, List, Some, ap, ◌∙◌, subst, sym, arith}
+use Rattle.std.proofs.Common.{◌≡◌, ℕ, ◌<◌, zero, suc, length, get_or, List, [], ◌∷◌, Some, ap, ◌∙◌, subst, sym, arith}
 use Rattle.std.specs.List.{AllByRecursion}
 use Rattle.std.specs.Prelude.{slice_get}
 use Rattle.std.proofs.lemmas.List.{length-map}
@@ -18,6 +18,12 @@ use Rattle.tr_session_book.specs.Book.{SessionBookState}
 use Rattle.tr_session_book.specs.BookSteps.{chunks_closed}
 use Rattle.tr_stream.specs.State.{StreamState}
 
+holds-at : (streams : List StreamState) (i : ℕ) (t : StreamState) → AllByRecursion HoldsItsParts streams → slice_get streams i ≡ Some t
+    → HoldsItsParts t
+holds-at [] i t held at = absurd cc
+holds-at (s ∷ ss) zero t held at = let same : s ≡ t = cc in subst HoldsItsParts same held.0
+holds-at (s ∷ ss) (suc i) t held at = holds-at ss i t held.1 at
+
 abbrev stream_in : SlotState → StreamState
 stream_in s = s.stream
 
@@ -26,8 +32,8 @@ module _ (plan : PlanState) (book : SessionBookState) (consumed cuts cleared : L
     (planned : (k : ℕ) (s : SlotState) → k < length slots → IsPlanned plan k (get_or slots k s).stream.config)
     (cut : (k : ℕ) (d : SeatState) (s : SlotState) → k < length slots
     → (get_or cuts k d).amount ≡ (totals_in (get_or slots k s).stream).cuts) where
-  of-plan : (i : ℕ) (s : SlotState) → slice_get slots i ≡ Some s → i < length slots → IsStreamOf book i s.stream
-  of-plan i s at lt =
+  of-plan : (i : ℕ) (s : SlotState) → slice_get slots i ≡ Some s → i < length slots → HoldsItsParts s.stream → IsStreamOf book i s.stream
+  of-plan i s at lt held =
       let there : get_or slots i s ≡ s = get_or_from_slice_get slots i s s at in
       let kept = desk.book_is in
       let was = mapped (λ (t : StreamState). t.config) (slice_get plan.session.streams i) s.stream.config
@@ -47,6 +53,7 @@ module _ (plan : PlanState) (book : SessionBookState) (consumed cuts cleared : L
           session = sym kept.mode k;
         });
         closed = closed;
+        known = held.known;
       }
     where
       closed-of : (i : ℕ) (s : SlotState) → get_or slots i s ≡ s → i < length slots → length s.stream.parts.closed ≡ chunks_closed i book
@@ -73,10 +80,11 @@ module _ (plan : PlanState) (book : SessionBookState) (consumed cuts cleared : L
   }
 
   -- each stream is that of its thread, and the book says how many parts it closed
-  pub settled-streams : HasItsStreams (session_of book (streams_of slots))
-  settled-streams = record {
+  pub settled-streams : AllByRecursion HoldsItsParts (streams_of slots) → HasItsStreams (session_of book (streams_of slots))
+  settled-streams held = record {
     as_many = length-map slots stream_in ∙ len ∙ desk.planned.books ∙ desk.planned.session.as_many ∙ sym (ap length desk.book_is.threads);
     are = λ i t at.
         let was = mapped stream_in (slice_get slots i) t (sym (slice_get-map stream_in slots i) ∙ at) in
-        subst (λ (x : StreamState). IsStreamOf book i x) was.2 (of-plan i was.0 was.1 (slice_get_within slots i was.0 was.1));
+        let own : HoldsItsParts was.0.stream = subst HoldsItsParts (sym was.2) (holds-at (streams_of slots) i t held at) in
+        subst (λ (x : StreamState). IsStreamOf book i x) was.2 (of-plan i was.0 was.1 (slice_get_within slots i was.0 was.1) own);
   }

@@ -9,17 +9,37 @@ use Rattle.tr_session_book.specs.BookSteps.{chunks_closed}
 use Rattle.tr_session_book.specs.declared.faults.SessionFault.{SessionFault}
 use Rattle.tr_session_book.specs.declared.faults.SessionFault.TheVariants.{TooMany}
 
--- the session's book, how many drainers were begun, and the amounts of the desk's seats, one of each kind for each stream
+-- a desk's book, and how many operators were made
+pub record NotedState : Type 0 where
+  pub book : SessionBookState
+  pub operators : ℕ
+
+abbrev pub noted_state : SessionBookState → ℕ → NotedState
+noted_state book operators = record { book = book; operators = operators }
+
+-- the session's book, how many operators were made and how many drainers were begun, and the amounts of the desk's seats, one of
+-- each kind for each stream
 pub record DeskState : Type 0 where
   pub book : SessionBookState
+  pub operators : ℕ
   pub drainers : ℕ
   pub consumed : List ℕ
   pub cuts : List ℕ
   pub cleared : List ℕ
 
-abbrev pub desk_state : SessionBookState → ℕ → List ℕ → List ℕ → List ℕ → DeskState
-desk_state book drainers consumed cuts cleared =
-    record { book = book; drainers = drainers; consumed = consumed; cuts = cuts; cleared = cleared }
+abbrev pub desk_state : NotedState → ℕ → List ℕ → List ℕ → List ℕ → DeskState
+desk_state noted drainers consumed cuts cleared = record {
+  book = noted.book;
+  operators = noted.operators;
+  drainers = drainers;
+  consumed = consumed;
+  cuts = cuts;
+  cleared = cleared;
+}
+
+-- one operator more was made
+abbrev pub with_operator : DeskState → DeskState
+with_operator desk = record desk { operators = desk.operators + 1 }
 
 -- what no call changes in a book once its session is shared
 pub record IsOfPlan (planned book : SessionBookState) : Type 0 where

@@ -1,5 +1,5 @@
 -- A desk's book with the journal of its operators' steps.
-use Rattle.std.specs.Prelude.{◌≡◌, ◌≢◌, ◌<◌, ◌+◌, ◌^◌, ◌++◌, ◌==◌, ◌∷◌, [], ℕ, Bool, List, Result, Ok, Err, IsTrue, if◌then◌else◌, length, map, slice_index_or}
+use Rattle.std.specs.Prelude.{◌≡◌, ◌≢◌, ◌<◌, ◌≤◌, ◌+◌, ◌-◌, ◌^◌, ◌⊎◌, ◌++◌, ◌==◌, ◌∷◌, [], ℕ, Bool, List, Result, Ok, Err, IsTrue, if◌then◌else◌, length, map, slice_index_or}
 use Rattle.std.specs.List.{AllByRecursion, AllPairs, Contains}
 use Rattle.atomic_table.specs.Seated.{TableId}
 use Rattle.tr_accounts.specs.Seats.{desk_seat}
@@ -54,9 +54,44 @@ pub record AreNewDeskSeats (n : ℕ) (books : List Books) (seats : List (SeatSta
   pub each : (i : ℕ) (d : SeatState StreamStep) → i < n
       → IsSeatAt (books_at books i).journal desk_seat (slice_index_or seats i d) × ((slice_index_or seats i d).own ≡ [])
 
--- so many operators have seats in a journal, beside the first seat, which is nobody's; a count that is full says nothing
-abbrev pub IsCountOf : ℕ → ℕ → Type 0
-IsCountOf operators made = operators + 1 < 2 ^ 64 → made ≡ operators + 1
+-- ---- operators
+
+-- an operator: its number, from 1 on in the order in which they are made, and what it did, in order
+pub record OperatorState : Type 0 where
+  pub number : ℕ
+  pub steps : List DeskStep
+
+abbrev pub operator_state : ℕ → List DeskStep → OperatorState
+operator_state number steps = record { number = number; steps = steps }
+
+-- the operator of a number, who did nothing yet
+abbrev pub new_operator : ℕ → OperatorState
+new_operator number = operator_state number []
+
+-- an operator did these too
+abbrev pub with_steps : List DeskStep → OperatorState → OperatorState
+with_steps steps operator = record operator { steps = operator.steps ++ steps }
+
+abbrev pub with_step : DeskStep → OperatorState → OperatorState
+with_step step operator = with_steps (step ∷ []) operator
+
+abbrev pub operator_numbers : List OperatorState → List ℕ
+operator_numbers operators = map (λ (o : OperatorState). o.number) operators
+
+-- all operators that were made, each where its number says
+pub record AreAllOperators (made : ℕ) (operators : List OperatorState) : Type 0 where
+  pub many : length operators ≡ made
+  pub in_order : (k : ℕ) (d : OperatorState) → k < length operators → (slice_index_or operators k d).number ≡ k + 1
+
+-- ---- a desk's journal
+
+-- what a program counts to is this number, unless both are as large as it can count
+abbrev pub IsNumber : ℕ → ℕ → Type 0
+IsNumber counted number = (counted ≡ number) ⊎ ((2 ^ 128 ≤ counted + 1) × (2 ^ 128 ≤ number + 1))
+
+-- how many operators have seats in a journal of which so many were made: its first seat is nobody's
+abbrev pub operators_of : ℕ → ℕ
+operators_of made = made - 1
 
 -- each line is of an operator's seat
 pub record AreOperators (made : ℕ) (lines : List (Line DeskStep)) : Type 0 where
@@ -69,63 +104,48 @@ pub record IsDeskJournal (plan : PlanState) (operators : ℕ) (book : SessionBoo
     (seats : List (SeatState StreamStep)) : Type 0 where
   pub table_is : journal.table ≡ plan.desk
   pub first : 0 < journal.made
-  pub count : IsCountOf operators journal.made
+  pub count : IsNumber operators (operators_of journal.made)
   pub theirs : AreOperators journal.made journal.lines
   pub leads : LeadsTo (all_done journal.lines) plan.session.book book
   pub many : length seats ≡ length plan.books
   pub each : (i : ℕ) (d : SeatState StreamStep) → i < length plan.books
       → IsDeskSeat plan i (all_done journal.lines) book (slice_index_or seats i d)
 
--- a seat has this number, unless that is as large as a number may be
-abbrev pub IsNumber : ℕ → ℕ → Type 0
-IsNumber number who = number + 1 < 2 ^ 64 → who ≡ number
-
--- an operator's seat of this number in this table, with nothing joined to it
+-- an operator's seat in this table, of this number, with nothing joined to it
 abbrev pub IsOperatorSeat : TableId → ℕ → SeatState DeskStep → Type 0
 IsOperatorSeat table number seat = (seat.table ≡ table) × (seat.joined ≡ []) × (0 < seat.who) × IsNumber number seat.who
 
--- an operator's steps are all that one seat has of a journal
-abbrev pub AreOfOneSeat : List (Line DeskStep) → List DeskStep → Type 0
-AreOfOneSeat lines steps = (who : ℕ) × (steps ≡ done_by who lines)
-
--- an operator's steps are all that the seat of this number has of a journal, unless that is as large as a number may be
-pub record IsDoneBy (number : ℕ) (steps : List DeskStep) (lines : List (Line DeskStep)) : Type 0 where
-  pub who : ℕ
-  pub own : steps ≡ done_by who lines
-  pub number_is : IsNumber number who
+-- an operator's steps are all that a journal has of its number
+abbrev pub HasItsOwn : List (Line DeskStep) → OperatorState → Type 0
+HasItsOwn lines operator = operator.steps ≡ done_by operator.number lines
 
 -- these operators did all that was done at a desk: each step is one's, and none is missing
-pub record DidAll (operators : List (List DeskStep)) (lines : List (Line DeskStep)) : Type 0 where
-  pub numbers : List ℕ
-  pub apart : AllPairs (λ a b. a ≢ b) numbers
-  pub own : operators ≡ map (λ who. done_by who lines) numbers
-  pub none_missing : AllByRecursion (λ (l : Line DeskStep). Contains numbers l.who) lines
+pub record DidAll (operators : List OperatorState) (lines : List (Line DeskStep)) : Type 0 where
+  pub apart : AllPairs (λ a b. a ≢ b) (operator_numbers operators)
+  pub own : AllByRecursion (HasItsOwn lines) operators
+  pub none_missing : AllByRecursion (λ (l : Line DeskStep). Contains (operator_numbers operators) l.who) lines
 
 -- what was done at a desk is what a session has: steps lead from the book that was planned to this one, and did just this to each
--- stream; each of these operators has just the steps of one seat, and together they have all, if these are all that were made
-pub record HaveDone (planned : SessionBookState) (operators : List (List DeskStep)) (all : Bool) (book : SessionBookState)
+-- stream; each of these operators has just the steps of its number, and together they have all, if these are all that were made
+pub record HaveDone (planned : SessionBookState) (operators : List OperatorState) (all : Bool) (book : SessionBookState)
     (operations : List (List StreamStep)) : Type 0 where
   pub lines : List (Line DeskStep)
   pub leads : LeadsTo (all_done lines) planned book
-  pub own : AllByRecursion (AreOfOneSeat lines) operators
+  pub own : AllByRecursion (HasItsOwn lines) operators
   pub none_missing : IsTrue all → DidAll operators lines
   pub did : (i : ℕ) → i < length operations → DoTo i (all_done lines) planned book (slice_index_or operations i [])
 
 -- operators did what a session's book has, and together they did all of it, if these are all that were made
-abbrev pub AreOperatorsOf : SessionBookState → List (List DeskStep) → Bool → SessionBookState → Type 0
+abbrev pub AreOperatorsOf : SessionBookState → List OperatorState → Bool → SessionBookState → Type 0
 AreOperatorsOf planned operators all book = (operations : List (List StreamStep)) × HaveDone planned operators all book operations
-
--- an operator did this too
-abbrev pub with_step : DeskStep → List DeskStep → List DeskStep
-with_step step steps = steps ++ step ∷ []
 
 -- ---- what is done to the stream in a slot, if it is the one of this number: another one is refused, and nobody did it
 
-abbrev pub operator_after_cut : Result CutDone StepFault → ℕ → SlotState → List DeskStep → List DeskStep
-operator_after_cut answer i slot steps = if i == slot.number then with_step (Cut i answer) steps else steps
+abbrev pub operator_after_cut : Result CutDone StepFault → ℕ → SlotState → OperatorState → OperatorState
+operator_after_cut answer i slot operator = if i == slot.number then with_step (Cut i answer) operator else operator
 
-abbrev pub operator_after_clear : Result Cleared SessionFault → ℕ → SlotState → List DeskStep → List DeskStep
-operator_after_clear answer i slot steps = if i == slot.number then with_step (Clear i answer) steps else steps
+abbrev pub operator_after_clear : Result Cleared SessionFault → ℕ → SlotState → OperatorState → OperatorState
+operator_after_clear answer i slot operator = if i == slot.number then with_step (Clear i answer) operator else operator
 
 -- a stream takes offers as the session does
 abbrev pub switch_answer : ℕ → SlotState → Result Unit SessionFault
@@ -135,5 +155,6 @@ abbrev pub slot_after_switch : ℕ → DeskState → SlotState → SlotState
 slot_after_switch i desk slot =
     if i == slot.number then record slot { stream = state_after_switch (is_active desk.book.state) slot.stream } else slot
 
-abbrev pub operator_after_switch : ℕ → DeskState → SlotState → List DeskStep → List DeskStep
-operator_after_switch i desk slot steps = if i == slot.number then with_step (Switch i (is_active desk.book.state)) steps else steps
+abbrev pub operator_after_switch : ℕ → DeskState → SlotState → OperatorState → OperatorState
+operator_after_switch i desk slot operator =
+    if i == slot.number then with_step (Switch i (is_active desk.book.state)) operator else operator

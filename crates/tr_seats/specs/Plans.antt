@@ -3,7 +3,7 @@ use Rattle.std.specs.Prelude.{◌≡◌, ◌≤◌, ◌+◌, ℕ, suc, List, [],
 use Rattle.atomic_table.specs.Seated.{TableId}
 use Rattle.tr_ledger.specs.Ledgers.{LedgerState, SeatState, ledger_state, seat_state}
 use Rattle.tr_seats.specs.Books.{Books, PlanState, cleared_books, consumed_books, cut_books}
-use Rattle.tr_seats.specs.Desks.{desk_state}
+use Rattle.tr_seats.specs.Desks.{desk_state, noted_state}
 use Rattle.tr_seats.specs.Settling.{OpenedState, opened_state}
 use Rattle.tr_seats.specs.Slots.{AreNew, AreSeatsOf, ProducerState, SlotState, amounts_of, slot_state}
 use Rattle.tr_stream.specs.State.{StreamState}
@@ -36,10 +36,10 @@ abbrev pub slots_from : ℕ → List StreamState → List SlotState
 slots_from i [] = []
 slots_from i (t ∷ ts) = slot_state i t 0 ∷ slots_from (suc i) ts
 
--- a planned session before its first call: no drainer was made, and no seat has anything
+-- a planned session before its first call: no operator and no drainer was made, and no seat has anything
 abbrev pub opened_of : PlanState → OpenedState
 opened_of plan = opened_state
-    (desk_state plan.session.book 0 (replicate (length plan.books) 0) (replicate (length plan.books) 0)
+    (desk_state (noted_state plan.session.book 0) 0 (replicate (length plan.books) 0) (replicate (length plan.books) 0)
     (replicate (length plan.books) 0))
     (slots_from 0 plan.session.streams)
 

@@ -11,7 +11,7 @@ use Rattle.tr_seats.specs.Books.{IsPlanned, PlanState}
 use Rattle.tr_seats.specs.Desks.{DeskState, IsOfPlan}
 use Rattle.tr_seats.specs.Drainers.{DrainerState, taken_at}
 use Rattle.tr_seats.specs.Histories.{IsHistoryOf, takes_of}
-use Rattle.tr_seats.specs.Operators.{DoTo, HaveDone}
+use Rattle.tr_seats.specs.Operators.{DoTo, HaveDone, OperatorState}
 use Rattle.tr_seats.specs.Slots.{IsOwn, ProducerState, SlotState}
 use Rattle.tr_seats.specs.Sums.{totals_in}
 use Rattle.tr_seats.specs.declared.settling.SettleError.{SettleError}
@@ -124,7 +124,7 @@ HaveHistories producers drainers operations streams = (k : ℕ) (p : ProducerSta
 
 -- one history of a session: steps at its desk lead from the book that was planned to its own, each operator's just its own, and
 -- one history of each stream has its producer's offers, the drainers' takes, and what those steps did to it
-pub record HaveOneHistory (planned : SessionBookState) (operators : List (List DeskStep)) (all : Bool) (producers : List ProducerState)
+pub record HaveOneHistory (planned : SessionBookState) (operators : List OperatorState) (all : Bool) (producers : List ProducerState)
     (drainers : List DrainerState) (book : SessionBookState) (streams : List StreamState) : Type 0 where
   pub operations : List (List StreamStep)
   pub many : length operations ≡ length streams
@@ -147,6 +147,15 @@ pub record HasOperated (planned : SessionBookState) (steps : List DeskStep) (boo
   pub own : steps ≡ done_by who lines
   pub streams_are : (i : ℕ) (t : StreamState) → i < length streams
       → WasOperated i (all_done lines) planned book (slice_index_or streams i t)
+
+-- the same of these operators at once, who did all of it together, if these are all that were made
+pub record HaveOperated (planned : SessionBookState) (operators : List OperatorState) (all : Bool) (book : SessionBookState)
+    (streams : List StreamState) : Type 0 where
+  pub operations : List (List StreamStep)
+  pub many : length operations ≡ length streams
+  pub done : HaveDone planned operators all book operations
+  pub are : (i : ℕ) (t : StreamState) → i < length streams
+      → IsOperatedBy (slice_index_or operations i []) (slice_index_or streams i t)
 
 -- what was consumed of each stream is what the desk's seat of it and the drainers' have
 abbrev pub HaveConsumed : List ℕ → List DrainerState → List StreamState → Type 0

@@ -2,6 +2,7 @@
 
 ghost use Rattle.std.specs.Prelude.{◌≡◌, ◌≢◌, ◌+◌, ◌<◌, Err, length};
 ghost use Rattle.tr_seats.specs.Clears.{desk_after_clear, desk_clear_answer, slot_after_clear};
+ghost use Rattle.tr_seats.specs.Desks.{with_operator};
 ghost use Rattle.tr_seats.specs.Operators.{operator_after_clear};
 ghost use Rattle.tr_session.specs.Steps.{ClearsPackets};
 ghost use Rattle.tr_session_book.specs.BookSteps.{book_clear_answer};
@@ -27,7 +28,7 @@ impl<N: Names, A: Allocator + Copy> Desk<N, A> {
     pub fn clear(&mut self, slot: &mut Slot<N, A>, i: usize) -> Result<Cleared, SessionFault>
         ensures value { result ≢ Err SessionFault.NoMemory →
             (result ≡ desk_clear_answer i self.old slot.old) × (slot.new ≡ slot_after_clear i self.old slot.old) }
-        ensures seats { self.new ≡ desk_after_clear result i self.old }
+        ensures seats { self.new ≡ desk_after_clear result i (with_operator self.old) }
         ensures no_memory { result ≡ Err SessionFault.NoMemory → slot.new ≡ slot.old }
         ensures memory { result ≡ Err SessionFault.NoMemory → ClearsPackets (desk_clear_answer i self.old slot.old) }
         ensures mode { result ≡ Err SessionFault.SnapshotMode → N.plan.session.book.mode ≡ SessionMode.Snapshot }

@@ -1,12 +1,11 @@
 //! The book of a session, as its lock guards it.
 
-ghost use Rattle.std.specs.Prelude.{◌≡◌, ◌≢◌, [], Err, IsOk, length};
-ghost use Rattle.tr_operations.specs.Operations.{IsOperatorOf};
+ghost use Rattle.std.specs.Prelude.{◌≡◌, ◌≢◌, ◌+◌, ◌↔◌, Err, IsOk, IsTrue, length};
 ghost use Rattle.tr_operations.specs.declared.step.DeskStep.TheVariants as step;
 ghost use Rattle.tr_seats.specs.Books.{IsPlan};
-ghost use Rattle.tr_seats.specs.Desks.{IsOfPlan, desk_after_begin, desk_begin_answer};
-ghost use Rattle.tr_seats.specs.Operators.{AreOperatorsOf, with_step};
-ghost use Rattle.tr_seats.specs.Settling.{AreInPlace, HasOperated, streams_of};
+ghost use Rattle.tr_seats.specs.Desks.{IsOfPlan, desk_after_begin, desk_begin_answer, with_operator};
+ghost use Rattle.tr_seats.specs.Operators.{AreAllOperators, AreOperatorsOf, new_operator, with_step};
+ghost use Rattle.tr_seats.specs.Settling.{AreInPlace, HaveOperated, streams_of};
 ghost use Rattle.tr_session_book.specs.BookSteps.{book_after_start, book_after_stop, book_start_answer, book_stop_answer};
 
 use crate::drainer::DrainerBegun;
@@ -42,42 +41,41 @@ impl<N: Names, A: Allocator> Model for Desk<N, A> {
     ghost view = { λ d. desk_state d.book d.drainers (amounts_of d.consumed.items) (amounts_of d.cuts.items)
         (amounts_of d.cleared.items) };
 
-    ghost invariant = { λ d. IsDesk N.plan d.book d.consumed.items d.cuts.items d.cleared.items };
+    ghost invariant = { λ d. IsDesk N.plan d.book.book d.consumed.items d.cuts.items d.cleared.items };
 }
 
 impl<N: Names, A: Allocator> Desk<N, A> {
-    /// A new operator, who did nothing at this desk yet. It takes no memory.
+    /// A new operator, of the next number, who did nothing at this desk yet. It takes no memory.
     pub fn operator(&mut self) -> Operator<N>
-        ensures same { self.new ≡ self.old }
-        ensures new { result ≡ [] }
+        ensures after { self.new ≡ with_operator self.old }
+        ensures new { result ≡ new_operator (self.old.operators + 1) }
     {
         self.book.operator()
     }
 
-    /// Changes nothing, and shows that what an operator did is what the session's book has.
-    pub fn audit_operator(&mut self, operator: &mut Operator<N>)
-        ensures same { (self.new ≡ self.old) × (operator.new ≡ operator.old) }
-        ensures own { IsOperatorOf N.plan.session.book operator.old self.old.book }
-    {
-        self.book.audit(operator);
-    }
-
-    /// The same of each of these operators, and answers whether they are all that were made, in that order: then each step at this
-    /// desk is one of theirs, and none is missing. A call that was lent no operator had one of its own, which nobody can lend.
+    /// Changes nothing, and shows that what each of these operators did is what the session's book has. Answers whether they are
+    /// all that were made, in that order: if so, each step at this desk is one of theirs, and none is missing. A call that was
+    /// lent no operator made one for itself, which nobody can lend.
     pub fn audit_operators(&mut self, operators: &mut [Operator<N>]) -> bool
         ensures same { (self.new ≡ self.old) × (operators.new ≡ operators.old) }
+        ensures lent { IsTrue result ↔ AreAllOperators self.old.operators operators.old }
         ensures own { AreOperatorsOf N.plan.session.book operators.old result self.old.book }
     {
         self.book.audit_all(operators)
     }
 
-    /// Of one operator, and that what all operators did to the streams in these slots is what those have.
-    pub(crate) fn audit_streams(&mut self, operator: &mut Operator<N>, slots: &mut [Slot<N, A>])
+    /// The same, and shows that what all operators did to the streams in these slots is what those have.
+    pub(crate) fn audit_streams(
+        &mut self,
+        operators: &mut [Operator<N>],
+        slots: &mut [Slot<N, A>],
+    ) -> bool
         requires { (length slots.old ≡ length N.plan.books) × AreInPlace slots.old }
-        ensures same { (self.new ≡ self.old) × (operator.new ≡ operator.old) × (slots.new ≡ slots.old) }
-        ensures own { HasOperated N.plan.session.book operator.old self.old.book (streams_of slots.old) }
+        ensures same { (self.new ≡ self.old) × (operators.new ≡ operators.old) × (slots.new ≡ slots.old) }
+        ensures lent { IsTrue result ↔ AreAllOperators self.old.operators operators.old }
+        ensures own { HaveOperated N.plan.session.book operators.old result self.old.book (streams_of slots.old) }
     {
-        self.book.audit_streams(operator, slots);
+        self.book.audit_streams(operators, slots)
     }
 
     /// Starts the session at a moment, as its book does: its streams are to be switched next.
@@ -87,7 +85,7 @@ impl<N: Names, A: Allocator> Desk<N, A> {
     /// `RotationPending`, `AlreadyActive`: nothing changed.
     pub fn start(&mut self, moment: Moment) -> Result<(), SessionFault>
         ensures answer { result ≡ book_start_answer self.old.book }
-        ensures after { self.new ≡ record self.old { book = book_after_start moment self.old.book } }
+        ensures after { self.new ≡ record (with_operator self.old) { book = book_after_start moment self.old.book } }
     {
         let mut operator = self.operator();
         self.start_by(&mut operator, moment)
@@ -117,7 +115,7 @@ impl<N: Names, A: Allocator> Desk<N, A> {
     /// `RotationPending`, `NotActive`: nothing changed.
     pub fn stop(&mut self) -> Result<(), SessionFault>
         ensures answer { result ≡ book_stop_answer self.old.book }
-        ensures after { self.new ≡ record self.old { book = book_after_stop self.old.book } }
+        ensures after { self.new ≡ record (with_operator self.old) { book = book_after_stop self.old.book } }
     {
         let mut operator = self.operator();
         self.stop_by(&mut operator)

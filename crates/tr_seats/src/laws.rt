@@ -5,13 +5,12 @@ ghost use Rattle.std.specs.List.{AllByRecursion};
 ghost use Rattle.std.specs.Prelude.{◌≡◌, ◌<◌, ℕ, Bool, List, Some, length, slice_get, slice_set};
 ghost use Rattle.tr_accounts.specs.declared.step.StreamStep.{StreamStep};
 ghost use Rattle.tr_operations.specs.Operations.{IsOperatorOf};
-ghost use Rattle.tr_operations.specs.declared.step.DeskStep.{DeskStep};
 ghost use Rattle.tr_seats.specs.Clears.{desk_after_clear, desk_clear_answer, slot_after_clear};
 ghost use Rattle.tr_seats.specs.Cuts.{desk_after_cut, desk_cut_answer, slot_after_cut};
 ghost use Rattle.tr_seats.specs.Desks.{DeskState};
 ghost use Rattle.tr_seats.specs.Drainers.{DrainerState};
-ghost use Rattle.tr_seats.specs.Operators.{HaveDone};
-ghost use Rattle.tr_seats.specs.Settling.{HasOperated, HaveOneHistory, IsOneEach};
+ghost use Rattle.tr_seats.specs.Operators.{HaveDone, OperatorState};
+ghost use Rattle.tr_seats.specs.Settling.{HasOperated, HaveOneHistory, HaveOperated, IsOneEach};
 ghost use Rattle.tr_seats.specs.Slots.{ProducerState, SlotState};
 ghost use Rattle.tr_session.specs.Session.{session_of};
 ghost use Rattle.tr_session.specs.Steps.{session_after_clear, session_after_cut, session_clear_answer, session_cut_answer};
@@ -77,11 +76,14 @@ pub fn every_step()
 /// What is said of operators together is said of each: what it did is what the session's book has, and all that was done to the
 /// streams but offers and takes is what the steps of all did. Does nothing.
 pub fn every_operator()
-    ensures book { (planned book : SessionBookState) (operators : List (List DeskStep)) (all : Bool)
+    ensures book { (planned book : SessionBookState) (operators : List OperatorState) (all : Bool)
         (operations : List (List StreamStep)) → HaveDone planned operators all book operations
-        → AllByRecursion (λ steps. IsOperatorOf planned steps book) operators }
-    ensures streams { (planned book : SessionBookState) (operators : List (List DeskStep)) (all : Bool)
+        → AllByRecursion (λ (o : OperatorState). IsOperatorOf planned o.steps book) operators }
+    ensures operated { (planned book : SessionBookState) (operators : List OperatorState) (all : Bool)
+        (streams : List StreamState) → HaveOperated planned operators all book streams
+        → AllByRecursion (λ (o : OperatorState). HasOperated planned o.steps book streams) operators }
+    ensures streams { (planned book : SessionBookState) (operators : List OperatorState) (all : Bool)
         (producers : List ProducerState) (drainers : List DrainerState) (streams : List StreamState)
         → HaveOneHistory planned operators all producers drainers book streams → IsOneEach (length streams) producers
-        → AllByRecursion (λ steps. HasOperated planned steps book streams) operators }
+        → AllByRecursion (λ (o : OperatorState). HasOperated planned o.steps book streams) operators }
 {}

@@ -34,7 +34,7 @@
 //!   that stream, and is the last of the drainer's list
 //!   (`Slot::take`: `value`, `no_memory`, `memory`, `seats` (`drainer_after`), `some`).
 //! - A look and a switch are the stream's, also a look at what was copied ahead, and so are its counts (`Slot::peek`: `value`,
-//!   `memory`; `peek_out`: `value`, `same`, `memory`; `set_active`: `value`, `same`; `counts`: `value`, `total`, `consumed`,
+//!   `memory`; `peek_out`: `value`, `same`, `memory`; `set_active`: `value`, `after`; `counts`: `value`, `total`, `consumed`,
 //!   `withdrawn`, `snapshot_session`).
 //! - Pages in reserve, what is copied ahead, and what is taken away of a clear change nothing that a slot shows
 //!   (`Slot::keep_spares`, `begin_copies`, `copy_more`, `take_removed`).
@@ -46,18 +46,20 @@
 //! - A step at the desk is noted with its answer, and is the last of its operator's list. The session's book is what all noted
 //!   steps lead to from the one that was planned, each answered there as the book answers it, or a cut or a clear that it lets
 //!   through as the stream does, if no allocation failed (`IsOperatorOf`). A stream is switched to what the book is
-//!   (`Desk::operator`: `new`, `same`; `start_by`, `stop_by`, `set_schedule_by`, `snapshot_begin_by`, `rotate_begin_by`,
-//!   `rotate_finish_by`, `cut_by`, `clear_by`: `steps`; `switch_by`: `answer`, `slot`, `same`, `steps`; `audit_operator`:
-//!   `own`, `same`; `NotedBook`: invariant (`IsDeskJournal`)).
-//! - Of a list of operators each one's steps are all that one seat of the desk's has. If these are all that were made, in that
-//!   order, each step at the desk is one of theirs, and none is missing (`Desk::audit_operators`, `Opened::audit_operators`:
-//!   `own` (`AreOperatorsOf`), `same`).
+//!   (`Desk::start_by`, `stop_by`, `set_schedule_by`, `snapshot_begin_by`, `rotate_begin_by`, `rotate_finish_by`, `cut_by`,
+//!   `clear_by`: `steps`; `switch_by`: `answer`, `slot`, `same`, `steps`; `audit_operators`: `own`, `same`; `every_operator`:
+//!   `book`; `NotedBook`: invariant (`IsDeskJournal`)).
+//! - Operators are numbered from 1 on, as they are made; a call that is lent none makes one. Of a list of operators each one's
+//!   steps are all that the desk has of its number. These are answered to be all operators if and only if they are all that were
+//!   made, in that order; then each step at the desk is one of theirs, and none is missing (`Desk::operator`: `new`, `after`;
+//!   `Desk::audit_operators`, `Opened::audit_operators`: `lent` (`AreAllOperators`), `own` (`AreOperatorsOf`), `same`;
+//!   `Opened::settle_with`: `lent`, `same`, `histories` (`HaveDone.own`, `HaveDone.none_missing`)).
 //! - What is done to a stream at the desk is noted in the stream's journal too. So all that was done to it but offers and takes
 //!   is what the desk's steps did: its switches, its clears, and its cuts, each at the end of its rotation (`HasOperated`)
-//!   (`Opened::audit_operator`: `streams`, `own`, `same`; `every_operator`: `book`, `streams`).
-//! - The desk's other calls are the book's. No rotation of a snapshot session ends (`Desk::start`, `stop`, `set_schedule`,
-//!   `snapshot_begin`: `answer`, `after`; `rotate_finish`: `answer`, `after`, `mode`; `rotate_begin`: `value`, `no_memory`,
-//!   `memory`).
+//!   (`Opened::audit_operators`: `streams` (`HaveOperated`), `own`, `same`; `every_operator`: `book`, `operated`, `streams`).
+//! - The desk's other calls are the book's, and count an operator more. No rotation of a snapshot session ends (`Desk::start`,
+//!   `stop`, `set_schedule`, `snapshot_begin`: `answer`, `after`; `rotate_finish`: `answer`, `after`, `mode`; `rotate_begin`:
+//!   `value`, `no_memory`, `memory`).
 //! - A cut is the session's rule on its desk and one slot: at the pending rotation's end, in order of stream. What it moves
 //!   goes to the desk's seats. Each stream has as many closed chunks as there are archives, and one more if the pending
 //!   rotation has cut it

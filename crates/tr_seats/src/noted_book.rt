@@ -1,14 +1,15 @@
 //! A session's book, with the journal of what operators do to it.
 
-ghost use Rattle.std.specs.Prelude.{◌≡◌, ◌≢◌, ◌+◌, ◌<◌, ◌^◌, [], Ok, Err, IsOk, length};
-ghost use Rattle.tr_operations.specs.Operations.{IsOperatorOf, IsStepOf};
+ghost use Rattle.std.specs.Prelude.{◌≡◌, ◌≢◌, ◌+◌, ◌<◌, ◌^◌, ◌↔◌, [], Ok, Err, IsOk, IsTrue, length};
+ghost use Rattle.tr_operations.specs.Operations.{IsStepOf};
 ghost use Rattle.tr_operations.specs.declared.step.DeskStep.TheVariants as step;
 ghost use Rattle.tr_seats.specs.Books.{IsPlanned, books_at};
 ghost use Rattle.tr_seats.specs.Clears.{seat_after_clear};
 ghost use Rattle.tr_seats.specs.Cuts.{book_if_cut, seat_after_cut, seat_of_cuts_after};
+ghost use Rattle.tr_seats.specs.Desks.{noted_state};
 ghost use Rattle.tr_seats.specs.Histories.{AreDeskWith, operations_in};
-ghost use Rattle.tr_seats.specs.Operators.{AreNewDeskSeats, AreOperatorsOf, HaveDone, with_step};
-ghost use Rattle.tr_seats.specs.Settling.{AreInPlace, HasOperated, streams_of};
+ghost use Rattle.tr_seats.specs.Operators.{AreAllOperators, AreNewDeskSeats, AreOperatorsOf, HaveDone, new_operator, with_step};
+ghost use Rattle.tr_seats.specs.Settling.{AreInPlace, HaveOperated, streams_of};
 ghost use Rattle.tr_seats.specs.Sums.{totals_in};
 ghost use Rattle.tr_session.specs.Steps.{clear_as_session, cut_as_step};
 ghost use Rattle.tr_session_book.specs.BookSteps.{book_after_rotate_begin, book_after_rotate_finish, book_after_schedule, book_after_snapshot_begin, book_after_start, book_after_stop, book_clear_answer, book_rotate_begin_answer, book_rotate_finish_answer, book_schedule_answer, book_snapshot_begin_answer, book_start_answer, book_stop_answer, cut_moment, is_active};
@@ -32,24 +33,24 @@ use tr_stream::{ClearFault, Cleared, CutDone, CutFault};
 use tr_terms::{Moment, SessionMode};
 
 /// A session's book, the journal of its operators' steps, and the desk's seats in the journals of the streams, in order of
-/// number: what is done to a stream is done here, so that both journals have it. Contracts see the book's value.
+/// number: what is done to a stream is done here, so that both journals have it. Contracts see a `NotedState`.
 #[derive(Drop)]
 pub(crate) struct NotedBook<N: Names, A: Allocator = Global> {
     book: SessionBook<A>,
     journal: Journal<DeskStep, A>,
     streams: Vec<StreamSeat, A>,
     // how many were made, or the largest number
-    operators: u64,
+    operators: u128,
     of: PhantomData<N>,
 }
 
 impl<N: Names, A: Allocator> Model for NotedBook<N, A> {
-    ghost use Rattle.tr_seats.specs.Operators.{IsDeskJournal};
-    ghost use Rattle.tr_session_book.specs.Book.{SessionBookState};
+    ghost use Rattle.tr_seats.specs.Desks.{NotedState, noted_state};
+    ghost use Rattle.tr_seats.specs.Operators.{IsDeskJournal, operators_of};
 
-    ghost Value = { SessionBookState };
+    ghost Value = { NotedState };
 
-    ghost view = { λ b. b.book };
+    ghost view = { λ b. noted_state b.book (operators_of b.journal.made) };
 
     ghost invariant = { λ b. IsDeskJournal N.plan b.operators b.book b.journal b.streams.items };
 }
@@ -64,7 +65,7 @@ impl<N: Names, A: Allocator> NotedBook<N, A> {
         requires book { book ≡ N.plan.session.book }
         requires journal { (journal.table ≡ N.plan.desk) × (journal.lines ≡ []) × (journal.made ≡ 1) }
         requires streams { AreNewDeskSeats (length N.plan.books) N.plan.books streams.items }
-        ensures { result ≡ book }
+        ensures { result ≡ noted_state book 0 }
     {
         NotedBook {
             book,
@@ -77,7 +78,7 @@ impl<N: Names, A: Allocator> NotedBook<N, A> {
 
     /// The book, to read.
     pub(crate) fn book(&self) -> &SessionBook<A>
-        ensures { result.now ≡ self.now }
+        ensures { result.now ≡ self.now.book }
     {
         &self.book
     }
@@ -88,10 +89,11 @@ impl<N: Names, A: Allocator> NotedBook<N, A> {
         self,
         operators: &mut [Operator<N>],
     ) -> (SessionBook<A>, Vec<StreamSeat, A>, bool)
-        ensures book { result.0 ≡ self }
+        ensures book { result.0 ≡ self.book }
         ensures streams { AreDeskWith N.plan.books [] result.1.items }
         ensures same { operators.new ≡ operators.old }
-        ensures done { HaveDone N.plan.session.book operators.old result.2 self (operations_in result.1.items) }
+        ensures lent { IsTrue result.2 ↔ AreAllOperators self.operators operators.old }
+        ensures done { HaveDone N.plan.session.book operators.old result.2 self.book (operations_in result.1.items) }
     {
         let NotedBook {
             book,
@@ -106,10 +108,10 @@ impl<N: Names, A: Allocator> NotedBook<N, A> {
 
     /// A new operator, who did nothing yet. It takes no memory.
     pub(crate) fn operator(&mut self) -> Operator<N>
-        ensures same { self.new ≡ self.old }
-        ensures new { result ≡ [] }
+        ensures after { self.new ≡ record self.old { operators = self.old.operators + 1 } }
+        ensures new { result ≡ new_operator (self.old.operators + 1) }
     {
-        if self.operators < u64::MAX {
+        if self.operators < u128::MAX {
             self.operators += 1;
         }
         Operator {
@@ -119,18 +121,11 @@ impl<N: Names, A: Allocator> NotedBook<N, A> {
         }
     }
 
-    /// Changes nothing, and shows that what an operator did is what the book has.
-    pub(crate) fn audit(&mut self, operator: &mut Operator<N>)
-        ensures same { (self.new ≡ self.old) × (operator.new ≡ operator.old) }
-        ensures own { IsOperatorOf N.plan.session.book operator.old self.old }
-    {
-        self.journal.audit(&mut operator.seat);
-    }
-
-    /// The same of each of these operators, and answers whether they are all that were made, in that order.
+    /// Changes nothing, and shows that what each did is what the book has. Answers whether they are all that were made, in order.
     pub(crate) fn audit_all(&mut self, operators: &mut [Operator<N>]) -> bool
         ensures same { (self.new ≡ self.old) × (operators.new ≡ operators.old) }
-        ensures own { AreOperatorsOf N.plan.session.book operators.old result self.old }
+        ensures lent { IsTrue result ↔ AreAllOperators self.old.operators operators.old }
+        ensures own { AreOperatorsOf N.plan.session.book operators.old result self.old.book }
     {
         audit_operators(&mut self.journal, operators, self.operators)
     }
@@ -140,8 +135,8 @@ impl<N: Names, A: Allocator> NotedBook<N, A> {
         operator: &mut Operator<N>,
         moment: Moment,
     ) -> Result<(), SessionFault>
-        ensures answer { result ≡ book_start_answer self.old }
-        ensures after { self.new ≡ book_after_start moment self.old }
+        ensures answer { result ≡ book_start_answer self.old.book }
+        ensures after { self.new ≡ record self.old { book = book_after_start moment self.old.book } }
         ensures steps { operator.new ≡ with_step (step.Start moment result) operator.old }
     {
         let answer = self.book.start(moment);
@@ -154,8 +149,8 @@ impl<N: Names, A: Allocator> NotedBook<N, A> {
     }
 
     pub(crate) fn stop(&mut self, operator: &mut Operator<N>) -> Result<(), SessionFault>
-        ensures answer { result ≡ book_stop_answer self.old }
-        ensures after { self.new ≡ book_after_stop self.old }
+        ensures answer { result ≡ book_stop_answer self.old.book }
+        ensures after { self.new ≡ record self.old { book = book_after_stop self.old.book } }
         ensures steps { operator.new ≡ with_step (step.Stop result) operator.old }
     {
         let answer = self.book.stop();
@@ -170,10 +165,10 @@ impl<N: Names, A: Allocator> NotedBook<N, A> {
     /// Switches the stream in a slot to what the session is.
     pub(crate) fn switch(&mut self, operator: &mut Operator<N>, slot: &mut Slot<N, A>)
         ensures slot { slot.new
-            ≡ record slot.old { stream = state_after_switch (is_active self.old.state) slot.old.stream } }
+            ≡ record slot.old { stream = state_after_switch (is_active self.old.book.state) slot.old.stream } }
         ensures same { self.new ≡ self.old }
         ensures steps { operator.new
-            ≡ with_step (step.Switch slot.old.number (is_active self.old.state)) operator.old }
+            ≡ with_step (step.Switch slot.old.number (is_active self.old.book.state)) operator.old }
     {
         let stream = slot.number();
         let active = self.book.state() == State::Active;
@@ -190,8 +185,8 @@ impl<N: Names, A: Allocator> NotedBook<N, A> {
         operator: &mut Operator<N>,
         schedule: Option<Schedule>,
     ) -> Result<(), SessionFault>
-        ensures answer { result ≡ book_schedule_answer self.old }
-        ensures after { self.new ≡ book_after_schedule schedule self.old }
+        ensures answer { result ≡ book_schedule_answer self.old.book }
+        ensures after { self.new ≡ record self.old { book = book_after_schedule schedule self.old.book } }
         ensures steps { operator.new ≡ with_step (step.SetSchedule schedule result) operator.old }
     {
         let wanted = schedule;
@@ -209,8 +204,8 @@ impl<N: Names, A: Allocator> NotedBook<N, A> {
         operator: &mut Operator<N>,
         moment: Moment,
     ) -> Result<Moment, SessionFault>
-        ensures answer { result ≡ book_snapshot_begin_answer moment self.old }
-        ensures after { self.new ≡ book_after_snapshot_begin moment self.old }
+        ensures answer { result ≡ book_snapshot_begin_answer moment self.old.book }
+        ensures after { self.new ≡ record self.old { book = book_after_snapshot_begin moment self.old.book } }
         ensures steps { operator.new ≡ with_step (step.SnapshotBegin moment result) operator.old }
     {
         let answer = self.book.snapshot_begin(moment);
@@ -231,9 +226,10 @@ impl<N: Names, A: Allocator> NotedBook<N, A> {
     where
         A: Copy,
         ensures value { result ≢ Err SessionFault.NoMemory →
-            (result ≡ book_rotate_begin_answer self.old) × (self.new ≡ book_after_rotate_begin moment self.old) }
+            (result ≡ book_rotate_begin_answer self.old.book)
+            × (self.new ≡ record self.old { book = book_after_rotate_begin moment self.old.book }) }
         ensures no_memory { result ≡ Err SessionFault.NoMemory → self.new ≡ self.old }
-        ensures memory { result ≡ Err SessionFault.NoMemory → IsOk (book_rotate_begin_answer self.old) }
+        ensures memory { result ≡ Err SessionFault.NoMemory → IsOk (book_rotate_begin_answer self.old.book) }
         ensures steps { operator.new ≡ with_step (step.RotateBegin moment result) operator.old }
     {
         let answer = self.book.rotate_begin(moment);
@@ -260,7 +256,7 @@ impl<N: Names, A: Allocator> NotedBook<N, A> {
     ) -> Result<CutDone, CutFault>
     where
         A: Copy,
-        requires due { cut_moment slot.old.number self.old ≡ Ok moment }
+        requires due { cut_moment slot.old.number self.old.book ≡ Ok moment }
         requires consumed { consumed.old.table ≡ (books_at N.plan.books slot.old.number).consumed }
         requires cuts { cuts.old.table ≡ (books_at N.plan.books slot.old.number).cuts }
         requires room { (totals_in slot.old.stream).cuts + 1 < 2 ^ 64 }
@@ -270,7 +266,7 @@ impl<N: Names, A: Allocator> NotedBook<N, A> {
         ensures cuts { cuts.new ≡ seat_of_cuts_after result cuts.old }
         ensures no_memory { result ≡ Err CutFault.NoMemory → slot.new ≡ slot.old }
         ensures memory { result ≡ Err CutFault.NoMemory → IsOk (state_cut_answer moment slot.old.stream) }
-        ensures after { self.new ≡ book_if_cut result self.old }
+        ensures after { self.new ≡ record self.old { book = book_if_cut result self.old.book } }
         ensures steps { operator.new ≡ with_step (step.Cut slot.old.number (cut_as_step result)) operator.old }
     {
         let stream = slot.number();
@@ -299,7 +295,7 @@ impl<N: Names, A: Allocator> NotedBook<N, A> {
         stream: usize,
         fault: StepFault,
     )
-        requires { IsStepOf (step.Cut stream (Err fault)) self.old self.old }
+        requires { IsStepOf (step.Cut stream (Err fault)) self.old.book self.old.book }
         ensures same { self.new ≡ self.old }
         ensures steps { operator.new ≡ with_step (step.Cut stream (Err fault)) operator.old }
     {
@@ -317,9 +313,9 @@ impl<N: Names, A: Allocator> NotedBook<N, A> {
         &mut self,
         operator: &mut Operator<N>,
     ) -> Result<Archive, SessionFault>
-        ensures answer { result ≡ book_rotate_finish_answer self.old }
-        ensures local { self.old.mode ≡ SessionMode.Snapshot → result ≡ Err SessionFault.NotPending }
-        ensures after { self.new ≡ book_after_rotate_finish self.old }
+        ensures answer { result ≡ book_rotate_finish_answer self.old.book }
+        ensures local { self.old.book.mode ≡ SessionMode.Snapshot → result ≡ Err SessionFault.NotPending }
+        ensures after { self.new ≡ record self.old { book = book_after_rotate_finish self.old.book } }
         ensures steps { operator.new ≡ with_step (step.RotateFinish result) operator.old }
     {
         let answer = self.book.rotate_finish();
@@ -342,7 +338,7 @@ impl<N: Names, A: Allocator> NotedBook<N, A> {
     ) -> Result<Cleared, ClearFault>
     where
         A: Copy,
-        requires allowed { IsOk (book_clear_answer self.old) }
+        requires allowed { IsOk (book_clear_answer self.old.book) }
         requires cleared { cleared.old.table ≡ (books_at N.plan.books slot.old.number).cleared }
         ensures value { result ≢ Err ClearFault.NoMemory → (result ≡ state_clear_answer slot.old.stream)
             × (slot.new ≡ record slot.old { stream = state_after_clear slot.old.stream }) }
@@ -377,7 +373,7 @@ impl<N: Names, A: Allocator> NotedBook<N, A> {
         stream: usize,
         fault: SessionFault,
     )
-        requires { book_clear_answer self.old ≡ Err fault }
+        requires { book_clear_answer self.old.book ≡ Err fault }
         ensures same { self.new ≡ self.old }
         ensures steps { operator.new ≡ with_step (step.Clear stream (Err fault)) operator.old }
     {
@@ -386,13 +382,18 @@ impl<N: Names, A: Allocator> NotedBook<N, A> {
         note(&mut self.journal, &mut operator.seat, step);
     }
 
-    /// Changes nothing, and shows that what an operator did is what the book and the streams in these slots have.
-    pub(crate) fn audit_streams(&mut self, operator: &mut Operator<N>, slots: &mut [Slot<N, A>])
+    /// The same, and shows that what all operators did to the streams in these slots is what those have.
+    pub(crate) fn audit_streams(
+        &mut self,
+        operators: &mut [Operator<N>],
+        slots: &mut [Slot<N, A>],
+    ) -> bool
         requires { (length slots.old ≡ length N.plan.books) × AreInPlace slots.old }
-        ensures same { (self.new ≡ self.old) × (operator.new ≡ operator.old) × (slots.new ≡ slots.old) }
-        ensures own { HasOperated N.plan.session.book operator.old self.old (streams_of slots.old) }
+        ensures same { (self.new ≡ self.old) × (operators.new ≡ operators.old) × (slots.new ≡ slots.old) }
+        ensures lent { IsTrue result ↔ AreAllOperators self.old.operators operators.old }
+        ensures own { HaveOperated N.plan.session.book operators.old result self.old.book (streams_of slots.old) }
     {
         audit_operations(slots, self.streams.as_mut_slice());
-        self.journal.audit(&mut operator.seat);
+        audit_operators(&mut self.journal, operators, self.operators)
     }
 }

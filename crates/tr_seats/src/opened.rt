@@ -1,9 +1,8 @@
 //! A session out of its locks.
 
-ghost use Rattle.std.specs.Prelude.{◌≡◌, ◌+◌, ◌≤◌, [], false, IfErr, IfOk, length, sum_by, vec_capacity, vec_len};
-ghost use Rattle.tr_operations.specs.Operations.{IsOperatorOf};
-ghost use Rattle.tr_seats.specs.Operators.{AreOperatorsOf};
-ghost use Rattle.tr_seats.specs.Settling.{AddUp, AreAccountsOf, AreInPlace, ArePacketsOf, AreTheirs, CanSettle, HasOperated, HaveCleared, HaveConsumed, HaveOneHistory, WereConsumed, IsSessionOf, IsWhy, opened_state, streams_of, totals_of_seats};
+ghost use Rattle.std.specs.Prelude.{◌≡◌, ◌+◌, ◌≤◌, ◌↔◌, [], false, IfErr, IfOk, IsTrue, length, sum_by, vec_capacity, vec_len};
+ghost use Rattle.tr_seats.specs.Operators.{AreAllOperators, AreOperatorsOf};
+ghost use Rattle.tr_seats.specs.Settling.{AddUp, AreAccountsOf, AreInPlace, ArePacketsOf, AreTheirs, CanSettle, HaveOperated, HaveCleared, HaveConsumed, HaveOneHistory, WereConsumed, IsSessionOf, IsWhy, opened_state, streams_of, totals_of_seats};
 ghost use Rattle.tr_seats.specs.Sums.{totals_of};
 ghost use Rattle.tr_session.specs.Session.{session_of};
 
@@ -95,26 +94,21 @@ impl<N: Names, A: Allocator> Opened<N, A> {
         (alloc, desk, slots, room)
     }
 
-    /// Changes nothing, and shows that what an operator did is what the session's book has; and, if each stream lies where its
-    /// number says, that what all operators did to the streams is what those have.
-    pub fn audit_operator(&mut self, operator: &mut Operator<N>)
-        ensures same { (self.new ≡ self.old) × (operator.new ≡ operator.old) }
-        ensures own { IsOperatorOf N.plan.session.book operator.old self.old.desk.book }
-        ensures streams { AreInPlace self.old.slots
-            → HasOperated N.plan.session.book operator.old self.old.desk.book (streams_of self.old.slots) }
-    {
-        self.desk.audit_operator(operator);
-        if are_in_place(&self.slots) {
-            self.desk.audit_streams(operator, self.slots.as_mut_slice());
-        }
-    }
-
-    /// Changes nothing, and shows of each of these operators that what it did is what the session's book has; and answers whether
-    /// they are all that were made, in that order: then each step at the desk is one of theirs, and none is missing.
+    /// Changes nothing, and shows of each of these operators that what it did is what the session's book has; and, if each stream
+    /// lies where its number says, that what all operators did to the streams is what those have. Answers whether these are all
+    /// operators that were made, in that order: if so, each step at the desk is one of theirs, and none is missing.
     pub fn audit_operators(&mut self, operators: &mut [Operator<N>]) -> bool
         ensures same { (self.new ≡ self.old) × (operators.new ≡ operators.old) }
+        ensures lent { IsTrue result ↔ AreAllOperators self.old.desk.operators operators.old }
         ensures own { AreOperatorsOf N.plan.session.book operators.old result self.old.desk.book }
+        ensures streams { AreInPlace self.old.slots
+            → HaveOperated N.plan.session.book operators.old result self.old.desk.book (streams_of self.old.slots) }
     {
+        if are_in_place(&self.slots) {
+            return self
+                .desk
+                .audit_streams(operators, self.slots.as_mut_slice());
+        }
         self.desk.audit_operators(operators)
     }
 }
@@ -160,8 +154,8 @@ impl<N: Names, A: Allocator + Copy> Opened<N, A> {
         }
     }
 
-    /// The same, which also shows that each of these operators has just the steps of one seat among those that were made at the
-    /// desk, and answers whether these are all operators that were made, in that order: then each of those steps is one of
+    /// The same, which also shows that each of these operators has just the steps of its number among those that were made at
+    /// the desk, and answers whether these are all operators that were made, in that order: if so, each of those steps is one of
     /// theirs. A call that is lent no operator makes one for itself, which nobody can lend.
     ///
     /// # Errors
@@ -183,6 +177,7 @@ impl<N: Names, A: Allocator + Copy> Opened<N, A> {
         ensures accounts { IfOk result (λ r. AreAccountsOf producers.items r.0.streams) }
         ensures taken { IfOk result (λ r. HaveConsumed self.desk.consumed drainers.items r.0.streams) }
         ensures packets { IfOk result (λ r. ArePacketsOf drainers.items r.0.streams) }
+        ensures lent { IfOk result (λ r. IsTrue r.2 ↔ AreAllOperators self.desk.operators operators.old) }
         ensures histories { IfOk result (λ r. HaveOneHistory N.plan.session.book operators.old r.2 producers.items
             drainers.items r.0.book r.0.streams) }
         ensures cleared { IfOk result (λ r. HaveCleared self.desk.cleared r.0.streams) }

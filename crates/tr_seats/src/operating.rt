@@ -3,6 +3,7 @@
 ghost use Rattle.std.specs.Prelude.{◌≡◌, ◌≢◌, ◌+◌, ◌<◌, ◌^◌, Ok, Err, IsOk, length};
 ghost use Rattle.tr_operations.specs.declared.step.DeskStep.TheVariants as step;
 ghost use Rattle.tr_seats.specs.Cuts.{desk_after_cut, desk_cut_answer, slot_after_cut};
+ghost use Rattle.tr_seats.specs.Desks.{with_operator};
 ghost use Rattle.tr_seats.specs.Operators.{operator_after_cut, operator_after_switch, slot_after_switch, switch_answer, with_step};
 ghost use Rattle.tr_seats.specs.Sums.{totals_in};
 ghost use Rattle.tr_session.specs.Steps.{cut_as_step};
@@ -28,7 +29,7 @@ impl<N: Names, A: Allocator> Desk<N, A> {
     /// `SnapshotMode`: nothing changed.
     pub fn set_schedule(&mut self, schedule: Option<Schedule>) -> Result<(), SessionFault>
         ensures answer { result ≡ book_schedule_answer self.old.book }
-        ensures after { self.new ≡ record self.old { book = book_after_schedule schedule self.old.book } }
+        ensures after { self.new ≡ record (with_operator self.old) { book = book_after_schedule schedule self.old.book } }
     {
         let mut operator = self.operator();
         self.set_schedule_by(&mut operator, schedule)
@@ -82,7 +83,7 @@ impl<N: Names, A: Allocator> Desk<N, A> {
     /// `NotSnapshotMode`, `NeverStarted`: nothing changed.
     pub fn snapshot_begin(&mut self, moment: Moment) -> Result<Moment, SessionFault>
         ensures answer { result ≡ book_snapshot_begin_answer moment self.old.book }
-        ensures after { self.new ≡ record self.old { book = book_after_snapshot_begin moment self.old.book } }
+        ensures after { self.new ≡ record (with_operator self.old) { book = book_after_snapshot_begin moment self.old.book } }
     {
         let mut operator = self.operator();
         self.snapshot_begin_by(&mut operator, moment)
@@ -113,7 +114,7 @@ impl<N: Names, A: Allocator> Desk<N, A> {
     pub fn rotate_finish(&mut self) -> Result<Archive, SessionFault>
         ensures answer { result ≡ book_rotate_finish_answer self.old.book }
         ensures mode { self.old.book.mode ≡ SessionMode.Snapshot → result ≡ Err SessionFault.NotPending }
-        ensures after { self.new ≡ record self.old { book = book_after_rotate_finish self.old.book } }
+        ensures after { self.new ≡ record (with_operator self.old) { book = book_after_rotate_finish self.old.book } }
     {
         let mut operator = self.operator();
         self.rotate_finish_by(&mut operator)
@@ -153,8 +154,8 @@ impl<N: Names, A: Allocator + Copy> Desk<N, A> {
     pub fn rotate_begin(&mut self, moment: Moment) -> Result<u64, SessionFault>
         ensures value { result ≢ Err SessionFault.NoMemory →
             (result ≡ book_rotate_begin_answer self.old.book)
-            × (self.new ≡ record self.old { book = book_after_rotate_begin moment self.old.book }) }
-        ensures no_memory { result ≡ Err SessionFault.NoMemory → self.new ≡ self.old }
+            × (self.new ≡ record (with_operator self.old) { book = book_after_rotate_begin moment self.old.book }) }
+        ensures no_memory { result ≡ Err SessionFault.NoMemory → self.new ≡ with_operator self.old }
         ensures memory { result ≡ Err SessionFault.NoMemory → IsOk (book_rotate_begin_answer self.old.book) }
     {
         let mut operator = self.operator();
@@ -193,7 +194,7 @@ impl<N: Names, A: Allocator + Copy> Desk<N, A> {
     pub fn cut(&mut self, slot: &mut Slot<N, A>, i: usize) -> Result<CutDone, StepFault>
         ensures value { result ≢ Err (StepFault.Cut CutFault.NoMemory) →
             (result ≡ desk_cut_answer i self.old slot.old) × (slot.new ≡ slot_after_cut i self.old slot.old) }
-        ensures seats { self.new ≡ desk_after_cut result i self.old }
+        ensures seats { self.new ≡ desk_after_cut result i (with_operator self.old) }
         ensures no_memory { result ≡ Err (StepFault.Cut CutFault.NoMemory) → slot.new ≡ slot.old }
         ensures memory { result ≡ Err (StepFault.Cut CutFault.NoMemory)
             → IsOk (desk_cut_answer i self.old slot.old) }

@@ -11,6 +11,7 @@ ghost use Rattle.tr_seats.specs.Desks.{DeskState};
 ghost use Rattle.tr_seats.specs.Drainers.{DrainerState, taken_at};
 ghost use Rattle.tr_seats.specs.Faults.{settle_error_code, settle_error_name};
 ghost use Rattle.tr_seats.specs.Histories.{AreDeskWith};
+ghost use Rattle.tr_seats.specs.Operators.{AreAllOperators};
 ghost use Rattle.tr_seats.specs.Settling.{AddUp, AreAccountsOf, AreAllMade, AreInPlace, ArePacketsOf, AreTheirs, AreWhole, CanSettle, HaveCleared, HaveConsumed, HaveOneHistory, IsOneEach, IsSessionOf, IsWhy, WereConsumed, opened_state, streams_of, taken_of, totals_of_seats};
 ghost use Rattle.tr_seats.specs.Slots.{AreJoined, AreSeatsOf, IsOwn, ProducerState, SlotState, amounts_of};
 ghost use Rattle.tr_seats.specs.Sums.{totals_in, totals_of};
@@ -417,6 +418,7 @@ pub(crate) fn settle_all<N: Names, A: Allocator + Copy>(
     ensures taken { HaveConsumed desk.consumed drainers.items (streams_of slots.items) }
     ensures packets { ArePacketsOf drainers.items (streams_of slots.items) }
     ensures same { operators.new ≡ operators.old }
+    ensures lent { IsTrue result.2 ↔ AreAllOperators desk.operators operators.old }
     ensures histories { HaveOneHistory N.plan.session.book operators.old result.2 producers.items drainers.items desk.book
         (streams_of slots.items) }
     ensures cleared { HaveCleared desk.cleared (streams_of slots.items) }

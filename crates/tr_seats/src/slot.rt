@@ -7,6 +7,7 @@ ghost use Rattle.tr_journal.specs.Journals.{seat_after};
 ghost use Rattle.tr_seats.specs.Accounts.{IsAccountOf, IsOperatedBy, IsSeatAt, IsTakeSeat, IsTakenFrom, seat_noting_clear, seat_noting_cut};
 ghost use Rattle.tr_seats.specs.Clears.{seat_after_clear};
 ghost use Rattle.tr_seats.specs.Cuts.{seat_after_cut, seat_of_cuts_after};
+ghost use Rattle.tr_seats.specs.Desks.{with_operator};
 ghost use Rattle.tr_seats.specs.Drainers.{drainer_after};
 ghost use Rattle.tr_seats.specs.Slots.{IsOwn, producer_after, slot_after_offer, slot_after_split, slot_after_take, slot_offer_answer, slot_split_answer, slot_take_answer, serial_of};
 ghost use Rattle.tr_ledger.specs.Ledgers.{seat_state};
@@ -210,7 +211,7 @@ impl<N: Names, A: Allocator> Slot<N, A> {
         ensures value { self.new ≡ record self.old {
           stream = state_after_switch (is_active desk.old.book.state) self.old.stream;
         } }
-        ensures same { desk.new ≡ desk.old }
+        ensures after { desk.new ≡ with_operator desk.old }
     {
         let mut operator = desk.operator();
         let number = self.number;

@@ -170,6 +170,7 @@ one-more b c ts us name channel t is calm bare named noted made pushed =
             has_channel = of.has_channel;
             config = of.config;
             closed = of.closed;
+            known = of.known;
           })
           (λ (new : (i ≡ length ts) × (u ≡ t)).
           let number : length ts ≡ i = sym new.0 in
@@ -194,6 +195,7 @@ one-more b c ts us name channel t is calm bare named noted made pushed =
             has_channel = where_it_is.1;
             config = ap (λ (v : StreamState). v.config) same;
             closed = ap (λ (v : StreamState). length v.parts.closed) same ∙ rw (calm, bare) refl;
+            known = ap (λ (v : StreamState). v.parts.forgotten) same;
           })
           (found-pushed ts t i u at);
     } in

@@ -29,9 +29,10 @@ use Rattle.tr_book.specs.Parts.{release}
 
 -- ---- streams
 
--- a step of a stream that leaves what it was made with, and its closed parts
+-- a step of a stream that leaves what it was made with, its closed parts, and how many of them are forgotten
 abbrev pub Keeps : (StreamState → StreamState) → Type 0
 Keeps f = (t : StreamState) → ((f t).config ≡ t.config) × (length (f t).parts.closed ≡ length t.parts.closed)
+    × ((f t).parts.forgotten ≡ t.parts.forgotten)
 
 pub offer-keeps : (moment id : ℕ) (payload : List ℕ) → Keeps (state_after_offer moment id payload)
 offer-keeps moment id payload t = go (refusal_of (length payload) t)
@@ -39,8 +40,9 @@ offer-keeps moment id payload t = go (refusal_of (length payload) t)
     go : (o : Option OfferFault)
         → ((state_unless o (state_entry moment id payload t) t).config ≡ t.config)
         × (length (state_unless o (state_entry moment id payload t) t).parts.closed ≡ length t.parts.closed)
-    go None = (refl, refl)
-    go (Some fault) = (refl, refl)
+        × ((state_unless o (state_entry moment id payload t) t).parts.forgotten ≡ t.parts.forgotten)
+    go None = (refl, refl, refl)
+    go (Some fault) = (refl, refl, refl)
 
 pub take-keeps : Keeps state_after_take
 take-keeps t = go t.config.session t.ring.waiting
@@ -48,44 +50,49 @@ take-keeps t = go t.config.session t.ring.waiting
     go : (m : SessionMode) (bs : List ClosedBuffer)
         → ((by_session_mode m (move_oldest bs t) t).config ≡ t.config)
         × (length (by_session_mode m (move_oldest bs t) t).parts.closed ≡ length t.parts.closed)
-    go Local [] = (refl, refl)
-    go Local (b ∷ bs) = (refl, refl)
-    go Snapshot bs = (refl, refl)
+        × ((by_session_mode m (move_oldest bs t) t).parts.forgotten ≡ t.parts.forgotten)
+    go Local [] = (refl, refl, refl)
+    go Local (b ∷ bs) = (refl, refl, refl)
+    go Snapshot bs = (refl, refl, refl)
 
 pub clear-keeps : Keeps state_after_clear
 clear-keeps t = go t.config.session
   where
     go : (m : SessionMode) → ((by_session_mode m (state_clear_ring t) t).config ≡ t.config)
         × (length (by_session_mode m (state_clear_ring t) t).parts.closed ≡ length t.parts.closed)
-    go Local = (refl, refl)
-    go Snapshot = (refl, refl)
+        × ((by_session_mode m (state_clear_ring t) t).parts.forgotten ≡ t.parts.forgotten)
+    go Local = (refl, refl, refl)
+    go Snapshot = (refl, refl, refl)
 
 pub release-keeps : (k : ℕ) → Keeps (state_after_release k)
 release-keeps k t = go (state_release_refusal k t)
   where
     go : (refusal : Option ReleaseFault) → ((release_part_unless refusal k t).config ≡ t.config)
         × (length (release_part_unless refusal k t).parts.closed ≡ length t.parts.closed)
-    go (Some fault) = (refl, refl)
-    go None = (refl, length-changed_at release k t.parts.closed)
+        × ((release_part_unless refusal k t).parts.forgotten ≡ t.parts.forgotten)
+    go (Some fault) = (refl, refl, refl)
+    go None = (refl, length-changed_at release k t.parts.closed, refl)
 
 pub switch-keeps : (active : Bool) → Keeps (state_after_switch active)
-switch-keeps active t = (refl, refl)
+switch-keeps active t = (refl, refl, refl)
 
 -- a cut of a stream of a local session closes one part
 pub cut-closes : (moment : ℕ) (t : StreamState) → t.config.session ≡ Local
     → ((state_after_cut moment t).config ≡ t.config)
     × (length (state_after_cut moment t).parts.closed ≡ length t.parts.closed + 1)
-cut-closes moment t local = rw local (refl, length-append t.parts.closed (_ ∷ []))
+    × ((state_after_cut moment t).parts.forgotten ≡ t.parts.forgotten)
+cut-closes moment t local = rw local (refl, length-append t.parts.closed (_ ∷ []), refl)
 
 same-stream : (b : SessionBookState) (i : ℕ) (t u : StreamState) → u.config ≡ t.config
-    → length u.parts.closed ≡ length t.parts.closed → IsStreamOf b i t → IsStreamOf b i u
-same-stream b i t u config closed is = record {
+    → length u.parts.closed ≡ length t.parts.closed → u.parts.forgotten ≡ t.parts.forgotten → IsStreamOf b i t → IsStreamOf b i u
+same-stream b i t u config closed forgotten is = record {
   place = is.place;
   channel = is.channel;
   has_place = is.has_place;
   has_channel = is.has_channel;
   config = config ∙ is.config;
   closed = closed ∙ is.closed;
+  known = forgotten ∙ is.known;
 }
 
 module _ {X : Type 0} where
@@ -133,7 +140,7 @@ after-one b ts j f keeps is = record {
       ⊎_elim
       (λ (same : (i ≢ j) × (u ≡ found.0)). subst (λ (v : StreamState). IsStreamOf b i v) (sym same.1) old)
       (λ (did : (i ≡ j) × (u ≡ f found.0)). subst (λ (v : StreamState). IsStreamOf b i v) (sym did.1)
-      (same-stream b i found.0 (f found.0) (keeps found.0).0 (keeps found.0).1 old))
+      (same-stream b i found.0 (f found.0) (keeps found.0).0 (keeps found.0).1 (keeps found.0).2 old))
       found.2;
 }
 
@@ -145,7 +152,7 @@ after-each b ts f keeps is = record {
   are = λ i u at.
       let found = found-mapped f ts i u at in
       subst (λ (v : StreamState). IsStreamOf b i v) (sym found.2)
-      (same-stream b i found.0 (f found.0) (keeps found.0).0 (keeps found.0).1 (is.are i found.0 found.1));
+      (same-stream b i found.0 (f found.0) (keeps found.0).0 (keeps found.0).1 (keeps found.0).2 (is.are i found.0 found.1));
 }
 
 -- ---- books
@@ -183,6 +190,7 @@ other-book b c ts same is = record {
         has_channel = same.channels of.place of.channel of.has_channel;
         config = of.config ∙ made;
         closed = of.closed ∙ sym (same.closed i within);
+        known = of.known;
       };
 }
 
@@ -317,6 +325,7 @@ after-cut b ts i end moment due local is = record {
           has_channel = of.has_channel;
           config = of.config;
           closed = of.closed ∙ count;
+          known = of.known;
         }
       where
         beside : (j n : ℕ) → j ≢ n → nat_lt j (n + 1) ≡ nat_lt j n
@@ -343,6 +352,7 @@ after-cut b ts i end moment due local is = record {
           has_channel = of.has_channel;
           config = closes.0 ∙ of.config;
           closed = omega (arith, closes.1, of.closed, before, after);
+          known = closes.2 ∙ of.known;
         }
 
 -- ---- reading a session

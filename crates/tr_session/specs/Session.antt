@@ -32,6 +32,8 @@ pub record IsStreamOf (b : SessionBookState) (i : ℕ) (t : StreamState) : Type 
   }
   -- it has closed a part for each archive, and one more if the pending rotation has cut it
   pub closed : length t.parts.closed ≡ chunks_closed i b
+  -- and all of these are known
+  pub known : t.parts.forgotten ≡ 0
 
 -- it has a part for each archived chunk
 abbrev pub HasArchivedParts : SessionBookState → StreamState → Type 0

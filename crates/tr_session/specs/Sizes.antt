@@ -12,9 +12,10 @@ use Rattle.tr_stream.specs.State.{StreamState}
 abbrev pub part_released : PartState → ℕ
 part_released p = if is_some p.released then 1 else 0
 
--- none of a stream's parts was released
-abbrev pub HoldsItsParts : StreamState → Type 0
-HoldsItsParts s = AllByRecursion (λ (p : PartState). p.released ≡ None) (all_parts s.parts)
+-- none of a stream's parts was released, and none is forgotten
+pub record HoldsItsParts (s : StreamState) : Type 0 where
+  pub held : AllByRecursion (λ (p : PartState). p.released ≡ None) (all_parts s.parts)
+  pub known : s.parts.forgotten ≡ 0
 
 -- how many packets, records and bytes the parts of a chunk have over all streams; a stream without that part adds none
 abbrev pub archive_packets : {S : Type 0} → StreamRules S → ℕ → SessionOf S → ℕ

@@ -27,13 +27,14 @@ pub struct ArchiveSize {
 
 /// How much a stream's part of a chunk holds.
 fn part_size<A: Allocator>(stream: &Stream<A>, id: u64) -> ArchiveSize
+    requires { stream.now.parts.forgotten ≡ 0 }
     ensures packets { result.packets ≡ option_map_or part_packets (by_state.part id stream.now) 0 }
     ensures records { result.records ≡ option_map_or part_records (by_state.part id stream.now) 0 }
     ensures bytes { result.bytes ≡ option_map_or part_bytes (by_state.part id stream.now) 0 }
     ensures released { result.released ≡ option_map_or part_released (by_state.part id stream.now) 0 }
     ensures few { (result.packets < 2 ^ 64) × (result.records < 2 ^ 64) × (result.bytes < LARGEST_PACKET * 2 ^ 64) × (result.released ≤ 1) }
 {
-    match stream.part(id) {
+    match stream.kept_part(id) {
         Some(part) => ArchiveSize {
             packets: u128::from(part.packet_count()),
             records: u128::from(part.records()),

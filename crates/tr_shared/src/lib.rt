@@ -34,11 +34,12 @@
 //!   given and with its answer. A start or a stop that succeeds has switched every stream, a rotation has begun at its moment,
 //!   cut streams and ended one with the archive that is answered, a clear has cleared every stream, and a snapshot shows the
 //!   moment that was stored.
-//!   If operators are lent to settling, each one's steps are all that one seat of the desk's has, in that one history. If it
-//!   answers that they are all that were made, in that order, each step at the desk is one of theirs: no other start, stop,
-//!   schedule, rotation, clear or snapshot was asked for
-//!   (`Shared::operator`; `start_by`, `stop_by`, `set_schedule_by`, `rotate_begin_by`, `rotate_next_by`, `rotate_finish_by`,
-//!   `rotate_by`, `tick_by`, `clear_by`, `snapshot_by`: `steps`; `settle_with`: `same`, `histories` (`HaveOneHistory.done`)).
+//!   If operators are lent to settling, each one's steps are all that the desk has of its number, in that one history. If it
+//!   answers that they are all that were made, their numbers are those from 1 on, in order, and each step at the desk is one of
+//!   theirs: no other start, stop, schedule, rotation, clear or snapshot was asked for
+//!   (`Shared::operator`: `new`, `numbered`; `start_by`, `stop_by`, `set_schedule_by`, `rotate_begin_by`, `rotate_next_by`,
+//!   `rotate_finish_by`, `rotate_by`, `tick_by`, `clear_by`, `snapshot_by`: `steps`; `settle_with`: `same`, `lent`
+//!   (`AreAllOperators`), `histories` (`HaveOneHistory.done`)).
 //! - An offer moves its producer's seats by what was answered, and a take the drainer's seat of that stream, whatever other
 //!   threads do meanwhile
 //!   (`Offers::offer`, `Producer::offer` (`IsOfferTo.seats`, `IsOfferTo.serial`, `IsOfferTo.too_big`, `IsOfferTo.spent`),
@@ -85,7 +86,8 @@
 //! rotation that begins if it is due, and the beginning of a snapshot are each equal to a definition (`next_of`, `cut_next`,
 //! `begin_if_due`, `begin_snapshot`), and what is shown of a slot is `state_snap` (`look`). When E2 and E3 come, and that the
 //! totals, and what was consumed of each stream, are the sums over all seats, the desk's too, is proved of `Opened::settle`,
-//! which `Shared::settle` calls with the values out of their locks.
+//! which `Shared::settle` calls with the values out of their locks. So is it of `Opened::settle_with` that it answers that all
+//! operators are lent if and only if they are all that the desk made, in that order.
 //!
 //! # What is only tested
 //!
@@ -100,7 +102,8 @@
 //! - if no operator is lent: a start, a stop, a schedule, a clear or a step of a rotation that only answers, and a start at
 //!   another moment;
 //! - any call that does something more at the desk in another operator's name, or takes in another drainer's, if these aren't
-//!   lent to settling; a `settle_with` that always says that not all operators are lent;
+//!   lent to settling; a `settle_with` that says that not all operators are lent where `Opened::settle_with`, which it calls,
+//!   answered that they are;
 //! - a `rotate_next_by` that answers `AllCut` without looking, or is always refused as `NotPending`, and so a `rotate_by` that
 //!   begins and is refused then; a `tick_by` or a `clear_by` that is always refused by one of its codes;
 //! - a drainer, a `build` or a snapshot that is always refused, or a call with an operator that is refused for a stream that

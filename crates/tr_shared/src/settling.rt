@@ -1,6 +1,7 @@
 //! The settling of a shared session.
 
-ghost use Rattle.std.specs.Prelude.{◌≡◌, ◌≤◌, ◌↔◌, [], false, IfErr, IfOk, length, vec_capacity, vec_len};
+ghost use Rattle.std.specs.Prelude.{◌≡◌, ◌≤◌, ◌↔◌, [], false, IfErr, IfOk, IsTrue, length, vec_capacity, vec_len};
+ghost use Rattle.tr_seats.specs.Operators.{AreAllOperators};
 ghost use Rattle.tr_seats.specs.Settling.{AddUp, AreAccountsOf, ArePacketsOf, AreTheirs, HaveOneHistory, IsOneEach, IsSessionOf, WereConsumed};
 ghost use Rattle.tr_seats.specs.Sums.{totals_of};
 ghost use Rattle.tr_shared.specs.Calls.{AreOffersOf, HaveTaken};
@@ -58,9 +59,9 @@ impl<N: Names, A: Allocator + Copy> Shared<N, A> {
     }
 
     /// The same, which also shows that what each of these operators did is what the settled session has: its steps are all that
-    /// one seat of the desk's has. It answers whether these are all operators that were made, in that order: then each step at
+    /// the desk has of its number. It answers whether these are all operators that were made, in that order: if so, each step at
     /// the desk is one of theirs, and no other start, stop, switch, schedule, rotation, clear or snapshot was asked for. A call
-    /// that was lent no operator had one of its own, which nobody can lend.
+    /// that was lent no operator made one for itself, which nobody can lend.
     ///
     /// # Errors
     ///
@@ -79,6 +80,7 @@ impl<N: Names, A: Allocator + Copy> Shared<N, A> {
         ensures accounts { IfOk result (λ r. AreAccountsOf producers.items r.0.streams) }
         ensures taken { IfOk result (λ r. HaveTaken drainers.items r.0.streams) }
         ensures packets { IfOk result (λ r. ArePacketsOf drainers.items r.0.streams) }
+        ensures lent { IfOk result (λ r. IsTrue r.2 → AreAllOperators (length operators.old) operators.old) }
         ensures histories { IfOk result (λ r. HaveOneHistory N.plan.session.book operators.old r.2 producers.items
             drainers.items r.0.book r.0.streams) }
         ensures places { IfOk result (λ r. AddUp r.1 r.0.streams) }
@@ -115,6 +117,7 @@ fn settle_opened<N: Names, A: Allocator + Copy>(
     ensures accounts { IfOk result (λ r. AreAccountsOf producers.items r.0.streams) }
     ensures taken { IfOk result (λ r. HaveTaken drainers.items r.0.streams) }
     ensures packets { IfOk result (λ r. ArePacketsOf drainers.items r.0.streams) }
+    ensures lent { IfOk result (λ r. IsTrue r.2 ↔ AreAllOperators opened.desk.operators operators.old) }
     ensures histories { IfOk result (λ r. HaveOneHistory N.plan.session.book operators.old r.2 producers.items drainers.items
         r.0.book r.0.streams) }
     ensures places { IfOk result (λ r. AddUp r.1 r.0.streams) }

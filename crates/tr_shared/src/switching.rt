@@ -1,6 +1,6 @@
 //! Operators of a shared session, and how they start and stop it.
 
-ghost use Rattle.std.specs.Prelude.{◌≡◌, [], true, false, IfErr, length};
+ghost use Rattle.std.specs.Prelude.{◌≡◌, ◌<◌, [], true, false, IfErr, length};
 ghost use Rattle.tr_operations.specs.declared.step.DeskStep.TheVariants as step;
 ghost use Rattle.tr_session_book.specs.BookSteps.{is_active};
 ghost use Rattle.tr_shared.specs.Calls.{IsStartFault, IsStopFault};
@@ -14,10 +14,11 @@ use tr_session_book::SessionFault;
 use tr_terms::Moment;
 
 impl<N: Names, A: Allocator> Shared<N, A> {
-    /// A new operator of this session, who did nothing yet. Each call of an operator has a form that is lent one, and notes in
-    /// its name just what was done at the desk, when, and with which answer. It takes no memory.
+    /// A new operator of this session, of the next number, who did nothing yet. Each call of an operator has a form that is lent
+    /// one, and notes in its name just what was done at the desk, when, and with which answer. It takes no memory.
     pub fn operator(&self, rt: &impl Wait) -> Operator<N>
-        ensures { result ≡ [] }
+        ensures new { result.steps ≡ [] }
+        ensures numbered { 0 < result.number }
     {
         let mut desk = self.desk.lock(rt);
         desk.operator()

@@ -280,6 +280,8 @@ stands-emptied s h is =
           let e = is.current in
           let a = now in
           cc;
+      starts = is.starts;
+      forgotten = is.forgotten;
       runs =
           let a = is.runs in
           let b = ap packet_runs packets ∙ packet_runs-are s.config (chunk_of h.cuts h) in

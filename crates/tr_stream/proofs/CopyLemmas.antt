@@ -1,5 +1,5 @@
 -- Copies of the sub-buffers that wait, one after another.
-use Rattle.std.proofs.Common.{◌≡◌, ℕ, zero, suc, List, [], ◌∷◌, ◌++◌, Some, ap, length, map, refl, slice_get, subst, sym, take, ◌∙◌}
+use Rattle.std.proofs.Common.{◌≡◌, ℕ, zero, suc, List, [], ◌∷◌, ◌++◌, Some, ap, map, slice_get, subst, sym, take, ◌∙◌}
 use Rattle.tr_packet.specs.Packets.{Contents, IsPacket, contents}
 use Rattle.tr_packet.specs.declared.head.Head.{Head}
 use Rattle.tr_ring.specs.ClosedBuffer.{ClosedBuffer}

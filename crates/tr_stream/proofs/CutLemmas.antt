@@ -1,5 +1,5 @@
 -- A cut of a stream is the history's cut.
-use Rattle.std.proofs.Common.{◌≡◌, ◌≢◌, ℕ, ◌+◌, ◌<◌, suc, List, [], ◌∷◌, ◌++◌, length, map, max, Ok, Err, refl, sym, ◌∙◌, ap, subst, append_assoc, arith}
+use Rattle.std.proofs.Common.{◌≡◌, ◌≢◌, ℕ, ◌+◌, ◌<◌, suc, List, [], ◌∷◌, ◌++◌, length, map, max, Ok, Err, refl, sym, ◌∙◌, ap, ap₂, subst, append_assoc, arith}
 use Rattle.std.proofs.lemmas.Grind.{common_steps}
 use Rattle.std.proofs.lemmas.List.{append-nil, map-append}
 use Rattle.std.proofs.lemmas.List.Sums.{sum_by_push}
@@ -93,6 +93,8 @@ stands-kept_all s h is =
           (sym (held-part s.config h.cuts g (unreleased h.cuts h.cuts h.released (omega arith) is.model.released)))
           ∙ sym (parts_below-more s.config h.cuts g);
       current = let e = is.current in let a = above in cc;
+      starts = ap₂ (λ (ns : List ℕ) (n : ℕ). ns ++ n ∷ []) is.starts is.offered;
+      forgotten = is.forgotten;
       runs = is.runs ∙ ap buffer_runs (sym (other-keep_waiting is_cleared h.cuts 0 h.closed refl refl));
       waiting = sym (waiting-keep_waiting h.cuts 0 h.closed);
       filling = is.filling;
@@ -137,6 +139,8 @@ stands-flushed s h [] end e is = record {
   };
   closed = is.closed ∙ parts_below-same s.config h.cuts (record h { last = end }) h (λ j l. refl) refl;
   current = is.current;
+  starts = is.starts;
+  forgotten = is.forgotten;
   runs = is.runs;
   waiting = append-nil s.ring.waiting ∙ is.waiting;
   filling = sym e ∙ is.filling;
@@ -176,6 +180,8 @@ stands-flushed s h (r ∷ rs) end e is =
       };
       closed = is.closed ∙ sym (parts_below-same s.config h.cuts h g (λ j l. same j) refl);
       current = is.current ∙ ap (part_of s.config h.cuts) (sym (same h.cuts));
+      starts = is.starts;
+      forgotten = is.forgotten;
       runs = is.runs ∙ ap buffer_runs (sym (buffers_where-push is_cleared 0 h.closed b ∙ append-nil (cleared_of h)));
       waiting = grind (arith, common_steps, is.waiting, is.discarded, is.number, is.filling, buffers_where-push is_waiting 0 h.closed b);
       filling = refl;

@@ -7,7 +7,7 @@ use Rattle.std.proofs.lemmas.List.Sums.{sum_by-cons, count_by-le-length}
 use Rattle.std.specs.List.{list_any}
 use Rattle.std.specs.Option.{option_map, option_or, unwrap_or}
 use Rattle.std.specs.Prelude.{sum_by, count_by, nat_lt}
-use Rattle.tr_book.specs.Parts.{PartState, seq_among, seq_in_part}
+use Rattle.tr_book.specs.Parts.{PartState, begun_at, known_from, seq_among, seq_in_part}
 use Rattle.tr_book.specs.Runs.{seq_in_runs}
 use Rattle.tr_terms.specs.declared.mode.Mode.{Mode}
 use Rattle.tr_terms.specs.declared.mode.Mode.TheVariants as mode
@@ -17,7 +17,7 @@ use Rattle.tr_ring.specs.Ring.{seq_waiting, seq_of}
 use Rattle.tr_stream.proofs.ChunkLemmas.{records_where-cons, discarded_in-cons}
 use Rattle.tr_stream.proofs.GoneLemmas.{runs-have}
 use Rattle.tr_stream.specs.Chunks.{buffers_where, chunk_of, cleared_of, waiting_of, packet_of, parts_below, closed_part}
-use Rattle.tr_stream.specs.Fates.{is_discarded_in, holder, status_fate, holder_fate, history_fate, all_parts, fate_in_parts, held_fate, loss_of, state_fate}
+use Rattle.tr_stream.specs.Fates.{is_discarded_in, holder, status_fate, holder_fate, block_fate, all_parts, fate_in_parts, held_fate, loss_of, fate_unless, found_fate, history_fate, state_fate}
 use Rattle.tr_stream.specs.History.{Status, Waiting, Dropped, Kept, Cleared, Block, Closed, History, is_waiting, is_dropped, is_kept_in, is_cleared, discarded_in, records_where, discarded_of, times_in, is_released}
 use Rattle.tr_stream.specs.Kept.{IsKept}
 use Rattle.tr_stream.specs.Sound.{LosesByMode}
@@ -26,7 +26,7 @@ use Rattle.tr_stream.specs.State.{StreamState}
 use Rattle.tr_stream.specs.WellFormed.{IsWithin, AllWithinCuts}
 use Rattle.tr_stream.specs.declared.config.StreamConfig.{StreamConfig}
 use Rattle.tr_stream.specs.declared.fate.Fate.{Fate}
-use Rattle.tr_stream.specs.declared.fate.Fate.TheVariants.{Discarded, Overwritten, InRing, InChunk}
+use Rattle.tr_stream.specs.declared.fate.Fate.TheVariants.{Discarded, Overwritten, InRing, InChunk, Forgotten}
 use Rattle.tr_stream.specs.declared.fate.Fate.TheVariants as fate
 use Rattle.tr_stream.proofs.ReleaseForms.{if-seq, if-id, current-held}
 
@@ -284,7 +284,7 @@ in_one_place s h n is below = grind (arith, nat_tests, is.model.serials n, is.of
 -- a serial whose record is there isn't discarded
 record_fate : (s : StreamState) (h : History) (n : ℕ) → StandsFor s h → n < s.counters.offered
     → 0 < held_times n h.closed + count_by (λ (r : Entry). eqb r.serial n) h.filling.records
-    → history_fate n h ≡ Some (holder_fate (holder n h.closed) h.filling)
+    → block_fate n h ≡ Some (holder_fate (holder n h.closed) h.filling)
 record_fate s h n is below some =
     let one = in_one_place s h n is below in
     let closed : list_any (λ (c : Closed). is_discarded_in n c.block) h.closed ≡ false = none_discarded n h.closed (omega (arith, one)) in
@@ -293,7 +293,7 @@ record_fate s h n is below some =
 
 -- found in a chunk
 chunk_fate : (s : StreamState) (h : History) (n k q : ℕ) → StandsFor s h → n < s.counters.offered
-    → seq_waiting n (chunk_of k h) ≡ Some q → history_fate n h ≡ Some (InChunk k q)
+    → seq_waiting n (chunk_of k h) ≡ Some q → block_fate n h ≡ Some (InChunk k q)
 chunk_fate s h n k q is below there =
     let some = found_counts (is_kept_in k) n 0 h.closed q there in
     record_fate s h n is below (omega (arith, some))
@@ -309,7 +309,7 @@ chunk_fate s h n k q is below there =
 
 -- found in the ring
 waiting_fate : (s : StreamState) (h : History) (n q : ℕ) → StandsFor s h → n < s.counters.offered
-    → seq_waiting n (waiting_of h) ≡ Some q → history_fate n h ≡ Some (InRing q)
+    → seq_waiting n (waiting_of h) ≡ Some q → block_fate n h ≡ Some (InRing q)
 waiting_fate s h n q is below there =
     let some = found_counts is_waiting n 0 h.closed q there in
     record_fate s h n is below (omega (arith, some))
@@ -324,7 +324,7 @@ waiting_fate s h n q is below there =
 
 -- found among the runs
 cleared_fate : (s : StreamState) (h : History) (n q : ℕ) → StandsFor s h → n < s.counters.offered
-    → seq_waiting n (cleared_of h) ≡ Some q → history_fate n h ≡ Some (fate.Cleared q)
+    → seq_waiting n (cleared_of h) ≡ Some q → block_fate n h ≡ Some (fate.Cleared q)
 cleared_fate s h n q is below there =
     let some = found_counts is_cleared n 0 h.closed q there in
     record_fate s h n is below (omega (arith, some))
@@ -338,7 +338,7 @@ cleared_fate s h n q is below there =
     tells (Cleared c) q e = refl
 
 filling_fate : (s : StreamState) (h : History) (n : ℕ) → StandsFor s h → n < s.counters.offered
-    → has_serial n h.filling.records ≡ true → history_fate n h ≡ Some (InRing h.filling.number)
+    → has_serial n h.filling.records ≡ true → block_fate n h ≡ Some (InRing h.filling.number)
 filling_fate s h n is below has =
     let some = has_counts n h.filling.records has in
     let none : holder n h.closed ≡ None = none_holds n h.closed (omega (arith, in_one_place s h n is below, some)) in
@@ -350,7 +350,7 @@ pub record IsNotHeld (n : ℕ) (h : History) : Type 0 where
   pub filling : has_serial n h.filling.records ≡ false
 
 overwritten_fate : (s : StreamState) (h : History) (n : ℕ) → StandsFor s h → n < s.counters.offered → IsNotHeld n h
-    → s.ring.discarded ≡ 0 → history_fate n h ≡ Some Overwritten
+    → s.ring.discarded ≡ 0 → block_fate n h ≡ Some Overwritten
 overwritten_fate s h n is below not never =
     let discarded : discarded_of h ≡ 0 = sym is.discarded ∙ never in
     let none = discarded_in_counts n h.closed (omega (arith, discarded)) in
@@ -360,7 +360,7 @@ overwritten_fate s h n is below not never =
     record_fate s h n is below (omega (arith, some)) ∙ ap (λ (f : Fate). Some f) (dropped_fate n h.cuts 0 h.closed h.filling not.discarded some)
 
 discarded_fate : (s : StreamState) (h : History) (n : ℕ) → StandsFor s h → n < s.counters.offered → IsNotHeld n h
-    → s.counters.overwritten ≡ 0 → history_fate n h ≡ Some Discarded
+    → s.counters.overwritten ≡ 0 → block_fate n h ≡ Some Discarded
 discarded_fate s h n is below not never =
     let none = none_held n h.cuts 0 h.closed not.discarded (sym is.overwritten ∙ never) in
     let absent = hasn't_count n h.filling.records not.filling in
@@ -368,7 +368,7 @@ discarded_fate s h n is below not never =
     grind (arith, nat_tests, is.offered, below, one, none, absent, some_discarded n h.closed, counts_none (λ (m : ℕ). eqb m n) h.filling.discarded)
 
 loss_fate : (s : StreamState) (h : History) (n : ℕ) (m : Mode) → s.config.mode ≡ m → StandsFor s h → LosesByMode s
-    → n < s.counters.offered → IsNotHeld n h → history_fate n h ≡ Some (loss_of m)
+    → n < s.counters.offered → IsNotHeld n h → block_fate n h ≡ Some (loss_of m)
 loss_fate s h n mode.Discard e is losses below not = discarded_fate s h n is below not (losses.discarding e).0
 loss_fate s h n mode.Overwrite e is losses below not = overwritten_fate s h n is below not (losses.overwriting e)
 
@@ -385,7 +385,7 @@ by_place : (s : StreamState) (h : History) (n : ℕ) (part : Option Fate) (gone 
     → seq_waiting n (cleared_of h) ≡ gone → seq_waiting n (waiting_of h) ≡ waits → has_serial n h.filling.records ≡ fills
     → Some (unwrap_or (option_or part (option_or (option_map fate.Cleared gone)
     (option_map InRing (option_or waits (cond fills (Some h.filling.number) None)))))
-    (loss_of s.config.mode)) ≡ history_fate n h
+    (loss_of s.config.mode)) ≡ block_fate n h
 by_place s h n (Some found_at) cleared waits fills is losses below a g b c =
     let at = parts_found n (suc h.cuts) s.config h found_at a in
     sym (chunk_fate s h n at.0 at.1 is below at.2 ∙ ap (λ (f : Fate). Some f) (sym at.3))
@@ -403,7 +403,7 @@ by_place s h n None None None false is losses below a g b c = sym (loss_fate s h
 }))
 
 accepted_fate : (s : StreamState) (h : History) (n : ℕ) → StandsFor s h → LosesByMode s → n < s.counters.offered
-    → Some (unwrap_or (held_fate n s) (loss_of s.config.mode)) ≡ history_fate n h
+    → Some (unwrap_or (held_fate n s) (loss_of s.config.mode)) ≡ block_fate n h
 accepted_fate s h n is losses below =
     let gone : seq_in_runs n s.parts.cleared ≡ seq_waiting n (cleared_of h) =
     ap (seq_in_runs n) is.runs ∙ runs-have n (cleared_of h) in
@@ -411,13 +411,34 @@ accepted_fate s h n is losses below =
     (by_place s h n (fate_in_parts n (parts_below s.config (suc h.cuts) h)) (seq_waiting n (cleared_of h))
     (seq_waiting n (waiting_of h)) (has_serial n h.filling.records) is losses below refl refl refl refl)
 
--- a serial's fate is the history's
-pub fates : (s : StreamState) (h : History) (n : ℕ) → StandsFor s h → LosesByMode s → state_fate n s ≡ history_fate n h
-fates s h n is losses = by_test (nat_lt n s.counters.offered) refl
+-- a serial's fate is the history's, if it isn't forgotten
+found-fates : (s : StreamState) (h : History) (n : ℕ) → StandsFor s h → LosesByMode s → found_fate n s ≡ block_fate n h
+found-fates s h n is losses = by_test (nat_lt n s.counters.offered) refl
   where
-    by_test : (b : Bool) → nat_lt n s.counters.offered ≡ b → state_fate n s ≡ history_fate n h
+    by_test : (b : Bool) → nat_lt n s.counters.offered ≡ b → found_fate n s ≡ block_fate n h
     by_test true below = rw below (accepted_fate s h n is losses (grind (arith, nat_tests, below)))
     by_test false above = grind (arith, nat_tests, is.offered, above)
+
+pub fates : (s : StreamState) (h : History) (n : ℕ) → StandsFor s h → LosesByMode s → state_fate n s ≡ history_fate n h
+fates s h n is losses =
+    let from : known_from s.parts ≡ begun_at h.forgotten h.starts = ap₂ begun_at is.forgotten is.starts in
+    ap₂ (λ (m : ℕ) (f : Option Fate). fate_unless (nat_lt n m) f) from (found-fates s h n is losses)
+
+-- before the first part that isn't forgotten all is
+pub forgotten-fate : (n : ℕ) (s : StreamState) → n < s.counters.offered → n < known_from s.parts → Some Forgotten ≡ state_fate n s
+forgotten-fate n s below before =
+    let accepted : nat_lt n s.counters.offered ≡ true = grind (arith, nat_tests, below) in
+    let gone : nat_lt n (known_from s.parts) ≡ true = grind (arith, nat_tests, before) in
+    sym (ap₂ (λ (b a : Bool). fate_unless b (cond a (Some (unwrap_or (held_fate n s) (loss_of s.config.mode))) None)) gone accepted)
+
+-- since then what is found
+pub known-fate : (n : ℕ) (s : StreamState) (f : Fate) → n < s.counters.offered → known_from s.parts ≤ n
+    → unwrap_or (held_fate n s) (loss_of s.config.mode) ≡ f → Some f ≡ state_fate n s
+known-fate n s f below since is =
+    let accepted : nat_lt n s.counters.offered ≡ true = grind (arith, nat_tests, below) in
+    let known : nat_lt n (known_from s.parts) ≡ false = grind (arith, nat_tests, since) in
+    sym (ap₂ (λ (b a : Bool). fate_unless b (cond a (Some (unwrap_or (held_fate n s) (loss_of s.config.mode))) None)) known accepted
+    ∙ ap (λ (g : Fate). Some g) is)
 
 -- what the search among the parts finds comes first, then the runs, then the ring
 pub held-part : (n : ℕ) (s : StreamState) (fate : Fate) → fate_in_parts n (all_parts s.parts) ≡ Some fate → Some fate ≡ held_fate n s

@@ -1,10 +1,9 @@
 -- What stands in the memory of a stream's ring.
-use Rattle.std.proofs.Common.{◌≡◌, ◌≢◌, ℕ, ◌+◌, ◌≤◌, zero, suc, Bool, true, ◌&&◌, leb, List, [], ◌∷◌, ◌++◌, length, map, slice_get, Option, Some, None, refl, sym, ap, subst, ◌∙◌, arith, ◌⊎◌, inl, inr}
-use Rattle.std.specs.Prelude.{IsTrue}
+use Rattle.std.proofs.Common.{◌≡◌, ◌≢◌, ℕ, ◌≤◌, zero, suc, true, leb, List, [], ◌∷◌, ◌++◌, length, map, slice_get, Some, refl, sym, ap, subst, ◌∙◌, arith, ◌⊎◌, inl, inr}
 use Rattle.std.proofs.lemmas.Grind.{common_steps}
 use Rattle.tr_packet.specs.Decoding.{content_bits_in}
-use Rattle.tr_packet.specs.Order.{in_order, moments_hold}
-use Rattle.tr_packet.specs.Packets.{Contents, IsPacket, MakePacket, contents, packet_text}
+use Rattle.tr_packet.specs.Order.{in_order}
+use Rattle.tr_packet.specs.Packets.{Contents, IsPacket, MakePacket, packet_text}
 use Rattle.tr_packet.proofs.OrderLemmas.{both, first_holds, moments_hold_from, moments_hold_says, second_holds}
 use Rattle.std.proofs.lemmas.Bool.{leb-true, le-leb}
 use Rattle.tr_record.specs.Records.{Entry}
@@ -13,7 +12,7 @@ use Rattle.tr_ring.specs.Heads.{begin_of, last_after, packet_from}
 use Rattle.tr_ring.specs.Ring.{RingState, current_buffer, current_head}
 use Rattle.tr_ring.specs.declared.origin.Origin.{Origin}
 use Rattle.tr_subbuf.specs.SubBuffer.{IsShownBy}
-use Rattle.tr_stream.specs.Chunks.{closed_if_any, origin_of, packet_of}
+use Rattle.tr_stream.specs.Chunks.{closed_if_any, packet_of}
 use Rattle.tr_stream.specs.Images.{packets_standing}
 use Rattle.tr_stream.specs.Sound.{ArePackets, IsSound}
 use Rattle.tr_stream.specs.State.{StreamState}

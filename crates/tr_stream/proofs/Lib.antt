@@ -8,6 +8,7 @@ pub mod CopyLemmas
 pub mod CutForms
 pub mod CutLemmas
 pub mod FateLemmas
+pub mod ForgetLemmas
 pub mod FormLemmas
 pub mod GapLemmas
 pub mod GoneLemmas

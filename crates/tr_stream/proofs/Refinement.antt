@@ -97,6 +97,8 @@ stands-joined s h e next is = record {
   };
   closed = is.closed ∙ parts_below-same s.config h.cuts (after_course Join e h) h (λ j l. refl) refl;
   current = is.current;
+  starts = is.starts;
+  forgotten = is.forgotten;
   runs = is.runs;
   waiting = is.waiting;
   filling = ap (λ (es : List Entry). es ++ e ∷ []) is.filling;
@@ -135,6 +137,8 @@ stands-discarded s h e used next is = record {
   };
   closed = is.closed ∙ parts_below-same s.config h.cuts (after_course DiscardNewest e h) h (λ j l. refl) refl;
   current = is.current;
+  starts = is.starts;
+  forgotten = is.forgotten;
   runs = is.runs;
   waiting = is.waiting;
   filling = is.filling;
@@ -185,6 +189,8 @@ stands-followed s h e used next is =
       };
       closed = is.closed ∙ sym (parts_below-same s.config h.cuts h (follow_filling e h) (λ j l. chunk_of-followed_by j e h) refl);
       current = is.current ∙ ap (part_of s.config h.cuts) (sym (chunk_of-followed_by h.cuts e h));
+      starts = is.starts;
+      forgotten = is.forgotten;
       runs = is.runs ∙ ap buffer_runs (sym (buffers_where-push is_cleared 0 h.closed (closed_now e h) ∙ append-nil (cleared_of h)));
       waiting = grind (
         arith,
@@ -279,6 +285,8 @@ stands-moved s h b bs oldest is =
           ∙ map-first s.config (chunk_of h.cuts h) bs b in
           let q = is.current in
           cc;
+      starts = is.starts;
+      forgotten = is.forgotten;
       runs = is.runs ∙ ap buffer_runs (sym (other-settle_first is_cleared (Kept h.cuts) 0 h.closed refl refl));
       waiting = grind (arith, is.waiting, waiting-settle_first (Kept h.cuts) 0 h.closed refl);
       filling = is.filling;
@@ -310,6 +318,8 @@ stands-without_oldest s h used is some =
           (other-settle_first is_kept Dropped 0 h.closed refl refl) is.model.chunks) is.model;
       closed = is.closed ∙ sym (parts_below-same s.config h.cuts h g (λ j l. other-settle_first (is_kept_in j) Dropped 0 h.closed refl refl) refl);
       current = is.current ∙ ap (part_of s.config h.cuts) (sym (other-settle_first (is_kept_in h.cuts) Dropped 0 h.closed refl refl));
+      starts = is.starts;
+      forgotten = is.forgotten;
       runs = is.runs ∙ ap buffer_runs (sym (other-settle_first is_cleared Dropped 0 h.closed refl refl));
       waiting = grind (arith, is.waiting, waiting-settle_first Dropped 0 h.closed refl);
       filling = is.filling;
@@ -351,6 +361,8 @@ stands-switched s h active is = record {
   };
   closed = is.closed ∙ parts_below-same s.config h.cuts (history_after_switch active h) h (λ j l. refl) refl;
   current = is.current;
+  starts = is.starts;
+  forgotten = is.forgotten;
   runs = is.runs;
   waiting = is.waiting;
   filling = is.filling;

@@ -100,6 +100,8 @@ stands-released s h k closed new is = record {
   };
   closed = ap (change_at k release) is.closed ∙ sym (released-one s.config k h.cuts h closed new);
   current = is.current;
+  starts = is.starts;
+  forgotten = is.forgotten;
   runs = is.runs;
   waiting = is.waiting;
   filling = is.filling;

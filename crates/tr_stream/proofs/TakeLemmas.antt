@@ -42,6 +42,8 @@ starts c = record {
   };
   closed = refl;
   current = refl;
+  starts = refl;
+  forgotten = refl;
   runs = refl;
   waiting = refl;
   filling = refl;

@@ -1,5 +1,5 @@
 -- The ring and the trace chunks of a history: its blocks, by what became of them, and their packets.
-use Rattle.std.specs.Prelude.{ℕ, ◌+◌, zero, suc, Bool, List, [], ◌∷◌, ◌++◌, length, map, nat_le, Option, Some, None, if◌then◌else◌}
+use Rattle.std.specs.Prelude.{ℕ, ◌+◌, zero, suc, Bool, List, [], ◌∷◌, ◌++◌, length, map, nat_le, nat_lt, Option, Some, None, if◌then◌else◌}
 use Rattle.std.specs.List.{flat_map}
 use Rattle.tr_book.specs.Parts.{PartState, part_state, released_part}
 use Rattle.tr_book.specs.Runs.{runs_of}
@@ -89,3 +89,7 @@ parts_below c (suc k) h = parts_below c k h ++ closed_part c k h ∷ []
 -- the part of a chunk, if it was begun
 abbrev pub part_in : StreamConfig → ℕ → History → Option PartState
 part_in c k h = if nat_le k h.cuts then Some (closed_part c k h) else None
+
+-- the part of a chunk, if it was begun and isn't forgotten
+abbrev pub part_known_in : StreamConfig → ℕ → History → Option PartState
+part_known_in c k h = if nat_lt k h.forgotten then None else part_in c k h

@@ -1,8 +1,8 @@
 -- What became of the offer of a serial.
-use Rattle.std.specs.Prelude.{ℕ, Bool, ◌==◌, ◌||◌, nat_lt, List, [], ◌∷◌, ◌++◌, Option, Some, None, find, if◌then◌else◌}
+use Rattle.std.specs.Prelude.{ℕ, Bool, true, false, ◌==◌, ◌||◌, nat_lt, List, [], ◌∷◌, ◌++◌, Option, Some, None, find, if◌then◌else◌}
 use Rattle.std.specs.List.{list_any}
 use Rattle.std.specs.Option.{option_map, option_or, unwrap_or}
-use Rattle.tr_book.specs.Parts.{PartState, PartsState, seq_in_part}
+use Rattle.tr_book.specs.Parts.{PartState, PartsState, begun_at, known_from, seq_in_part}
 use Rattle.tr_book.specs.Runs.{seq_in_runs}
 use Rattle.tr_terms.specs.declared.mode.Mode.{Mode}
 use Rattle.tr_terms.specs.declared.mode.Mode.TheVariants as mode
@@ -11,7 +11,7 @@ use Rattle.tr_ring.specs.Ring.{RingState, seq_of}
 use Rattle.tr_stream.specs.History.{Status, Waiting, Dropped, Kept, Cleared, Block, Closed, History, offered_of}
 use Rattle.tr_stream.specs.State.{StreamState}
 use Rattle.tr_stream.specs.declared.fate.Fate.{Fate}
-use Rattle.tr_stream.specs.declared.fate.Fate.TheVariants.{Discarded, Overwritten, InRing, InChunk}
+use Rattle.tr_stream.specs.declared.fate.Fate.TheVariants.{Discarded, Overwritten, InRing, InChunk, Forgotten}
 use Rattle.tr_stream.specs.declared.fate.Fate.TheVariants as fate
 
 -- it was discarded while the block was filling
@@ -37,12 +37,21 @@ abbrev pub holder_fate : Option Closed → Block → Fate
 holder_fate None filling = InRing filling.number
 holder_fate (Some c) filling = status_fate c.status c.block.number
 
--- by the history; none if no offer with this serial was accepted
-abbrev pub history_fate : ℕ → History → Option Fate
-history_fate n h =
+-- by the blocks; none if no offer with this serial was accepted
+abbrev pub block_fate : ℕ → History → Option Fate
+block_fate n h =
     if nat_lt n (offered_of h)
     then Some (if is_discarded n h then Discarded else holder_fate (holder n h.closed) h.filling)
     else None
+
+-- an offer that is forgotten has no other fate
+abbrev pub fate_unless : Bool → Option Fate → Option Fate
+fate_unless true known = option_map (λ (f : Fate). Forgotten) known
+fate_unless false known = known
+
+-- by the history: the blocks tell of what was offered since the first chunk began that isn't forgotten
+abbrev pub history_fate : ℕ → History → Option Fate
+history_fate n h = fate_unless (nat_lt n (begun_at h.forgotten h.starts)) (block_fate n h)
 
 -- the parts in order, the current one last
 abbrev pub all_parts : PartsState → List PartState
@@ -69,6 +78,9 @@ abbrev pub loss_of : Mode → Fate
 loss_of mode.Discard = Discarded
 loss_of mode.Overwrite = Overwritten
 
--- by what a stream holds
+-- by what a stream holds, and would hold if nothing were forgotten
+abbrev pub found_fate : ℕ → StreamState → Option Fate
+found_fate n s = if nat_lt n s.counters.offered then Some (unwrap_or (held_fate n s) (loss_of s.config.mode)) else None
+
 abbrev pub state_fate : ℕ → StreamState → Option Fate
-state_fate n s = if nat_lt n s.counters.offered then Some (unwrap_or (held_fate n s) (loss_of s.config.mode)) else None
+state_fate n s = fate_unless (nat_lt n (known_from s.parts)) (found_fate n s)

@@ -4,6 +4,8 @@ use Rattle.tr_stream.specs.declared.answers.ClearFault.{ClearFault}
 use Rattle.tr_stream.specs.declared.answers.ClearFault.TheVariants as clear
 use Rattle.tr_stream.specs.declared.answers.CutFault.{CutFault}
 use Rattle.tr_stream.specs.declared.answers.CutFault.TheVariants as cut
+use Rattle.tr_stream.specs.declared.answers.ForgetFault.{ForgetFault}
+use Rattle.tr_stream.specs.declared.answers.ForgetFault.TheVariants as forget
 use Rattle.tr_stream.specs.declared.answers.OfferFault.{OfferFault}
 use Rattle.tr_stream.specs.declared.answers.OfferFault.TheVariants as offer
 use Rattle.tr_stream.specs.declared.answers.ReleaseFault.{ReleaseFault}
@@ -62,3 +64,13 @@ abbrev pub release_fault_name : ReleaseFault → List ℕ
 release_fault_name release.NoPart = codes "NoPart"
 release_fault_name release.Released = codes "Released"
 release_fault_name release.NoMemory = codes "NoMemory"
+
+abbrev pub forget_fault_code : ForgetFault → List ℕ
+forget_fault_code forget.NoPart = codes "Z1"
+forget_fault_code forget.Held = codes "Z2"
+forget_fault_code forget.NoMemory = codes "Z3"
+
+abbrev pub forget_fault_name : ForgetFault → List ℕ
+forget_fault_name forget.NoPart = codes "NoPart"
+forget_fault_name forget.Held = codes "Held"
+forget_fault_name forget.NoMemory = codes "NoMemory"

@@ -1,6 +1,6 @@
 -- The history of a stream: every block that it ever filled, and what became of each. No block is ever removed.
 use Rattle.std.specs.List.{list_any}
-use Rattle.std.specs.Prelude.{ℕ, ◌+◌, Bool, true, false, ◌==◌, List, length, sum_by, count_by, if◌then◌else◌}
+use Rattle.std.specs.Prelude.{ℕ, ◌+◌, zero, suc, Bool, true, false, ◌==◌, ◌&&◌, List, length, sum_by, count_by, if◌then◌else◌}
 use Rattle.tr_record.specs.Records.{Entry}
 
 -- what became of a closed block: it waits, it was overwritten, it is kept in a chunk, or it was cleared, before or after it
@@ -23,13 +23,15 @@ pub record Closed : Type 0 where
   pub end : ℕ
   pub status : Status
 
--- the closed blocks in order, and the one that is filling; the cuts; the chunks that were released; the last stored moment;
--- whether offers are taken
+-- the closed blocks in order, and the one that is filling; the cuts, and how many offers had been accepted at each; the chunks
+-- that were released, and how many, the first ones, are forgotten; the last stored moment; whether offers are taken
 pub record History : Type 0 where
   pub closed : List Closed
   pub filling : Block
   pub cuts : ℕ
+  pub starts : List ℕ
   pub released : List ℕ
+  pub forgotten : ℕ
   pub last : ℕ
   pub active : Bool
 
@@ -116,3 +118,8 @@ times n h = sum_by (λ (c : Closed). times_in n c.block) h.closed + times_in n h
 -- the chunk of this number was released
 abbrev pub is_released : ℕ → History → Bool
 is_released k h = list_any (λ (j : ℕ). j == k) h.released
+
+-- each chunk below this number was
+abbrev pub are_released : ℕ → History → Bool
+are_released zero h = true
+are_released (suc k) h = are_released k h && is_released k h

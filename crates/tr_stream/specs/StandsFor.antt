@@ -10,6 +10,9 @@ pub record StandsFor (s : StreamState) (h : History) : Type 0 where
   -- the closed parts are the chunks below the cuts, and the current part is the chunk after them
   pub closed : s.parts.closed ≡ parts_below s.config h.cuts h
   pub current : s.parts.current ≡ part_of s.config h.cuts (chunk_of h.cuts h)
+  -- as many offers had been accepted when each part began, and as many parts are forgotten
+  pub starts : s.parts.starts ≡ h.starts
+  pub forgotten : s.parts.forgotten ≡ h.forgotten
   -- the runs are those of the blocks that were cleared
   pub runs : s.parts.cleared ≡ buffer_runs (cleared_of h)
   -- the ring is the blocks that wait, and the one that is filling

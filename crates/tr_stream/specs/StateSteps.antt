@@ -1,8 +1,8 @@
 -- What each call does to what a stream holds, and what it answers.
 use Rattle.std.specs.Option.{option_map_or}
-use Rattle.std.specs.Prelude.{ℕ, ◌+◌, ◌-◌, ◌^◌, max, min, Bool, true, false, nat_lt, nat_le, not, List, [], ◌∷◌, length, map, Option, Some, None, Result, Ok, Err, is_some, slice_get, if◌then◌else◌}
+use Rattle.std.specs.Prelude.{ℕ, ◌+◌, ◌-◌, ◌^◌, zero, suc, max, min, Bool, true, false, ◌&&◌, nat_lt, nat_le, not, List, [], ◌∷◌, length, map, Option, Some, None, Result, Ok, Err, is_some, slice_get, if◌then◌else◌}
 use Rattle.tr_book.specs.Counters.{CountersState, new_counters, with_consumed, with_cleared, at_moment}
-use Rattle.tr_book.specs.Parts.{PartState, no_parts, part_bytes, part_packets, part_records, with_packet, with_packets, close_part, clear_part, release_part}
+use Rattle.tr_book.specs.Parts.{PartState, no_parts, part_bytes, part_packets, part_records, with_packet, with_packets, close_part, clear_part, forget_parts, release_part}
 use Rattle.tr_book.specs.Snaps.{SnapState, snap_state}
 use Rattle.tr_book.specs.declared.counts.Counts.{Counts}
 use Rattle.tr_record.specs.Records.{Entry, entry}
@@ -17,10 +17,12 @@ use Rattle.tr_stream.specs.State.{StreamState, in_ring, in_parts, stream_state}
 use Rattle.tr_stream.specs.declared.answers.ClearFault.{ClearFault}
 use Rattle.tr_stream.specs.declared.answers.ClearFault.TheVariants as clear_fault
 use Rattle.tr_stream.specs.declared.answers.Cleared.{Cleared}
-use Rattle.tr_stream.specs.Steps.{taken_from, done_with, released_unless}
+use Rattle.tr_stream.specs.Steps.{taken_from, done_unless, done_with, released_unless}
 use Rattle.tr_stream.specs.declared.answers.CutDone.{CutDone}
 use Rattle.tr_stream.specs.declared.answers.CutFault.{CutFault}
 use Rattle.tr_stream.specs.declared.answers.CutFault.TheVariants as cut_fault
+use Rattle.tr_stream.specs.declared.answers.ForgetFault.{ForgetFault}
+use Rattle.tr_stream.specs.declared.answers.ForgetFault.TheVariants as forget_fault
 use Rattle.tr_stream.specs.declared.answers.OfferFault.{OfferFault}
 use Rattle.tr_stream.specs.declared.answers.OfferFault.TheVariants.{Inactive, TooBig, Spent}
 use Rattle.tr_stream.specs.declared.answers.Offered.{Offered}
@@ -170,6 +172,32 @@ release_part_unless None k s = record s { parts = release_part k s.parts }
 
 abbrev pub state_after_release : ℕ → StreamState → StreamState
 state_after_release k s = release_part_unless (state_release_refusal k s) k s
+
+-- the closed part at this place was released
+abbrev pub is_part_released : ℕ → StreamState → Bool
+is_part_released k s = option_map_or (λ (p : PartState). is_some p.released) (slice_get s.parts.closed k) false
+
+-- each one below it was
+abbrev pub are_parts_released : ℕ → StreamState → Bool
+are_parts_released zero s = true
+are_parts_released (suc k) s = are_parts_released k s && is_part_released k s
+
+-- why the parts below this number aren't forgotten: not all of them are closed, or not all were released
+abbrev pub state_forget_refusal : ℕ → StreamState → Option ForgetFault
+state_forget_refusal k s =
+    if nat_lt (length s.parts.closed) k then Some forget_fault.NoPart
+    else (if are_parts_released k s then None else Some forget_fault.Held)
+
+-- parts are forgotten
+abbrev pub state_forget_answer : ℕ → StreamState → Result (Unit {0}) ForgetFault
+state_forget_answer k s = done_unless (state_forget_refusal k s)
+
+abbrev pub forget_parts_unless : Option ForgetFault → ℕ → StreamState → StreamState
+forget_parts_unless (Some fault) k s = s
+forget_parts_unless None k s = record s { parts = forget_parts k s.parts }
+
+abbrev pub state_after_forget : ℕ → StreamState → StreamState
+state_after_forget k s = forget_parts_unless (state_forget_refusal k s) k s
 
 -- what a peek shows of the stream at a moment
 abbrev pub state_snap : ℕ → StreamState → SnapState

@@ -9,7 +9,7 @@ use Rattle.tr_record.specs.Records.{Entry, entry}
 use Rattle.tr_record.specs.Weight.{weight_of}
 use Rattle.tr_ring.specs.ClosedBuffer.{ClosedBuffer}
 use Rattle.tr_stream.specs.Chunks.{waiting_of, ring_of, chunk_of, packet_of}
-use Rattle.tr_stream.specs.History.{Status, Waiting, Dropped, Kept, Cleared, Closed, History, is_waiting, is_dropped, is_kept, is_cleared, is_consumed, is_withdrawn, is_released, offered_of, discarded_of, records_where, blocks_where}
+use Rattle.tr_stream.specs.History.{Status, Waiting, Dropped, Kept, Cleared, Closed, History, is_waiting, is_dropped, is_kept, is_cleared, is_consumed, is_withdrawn, is_released, are_released, offered_of, discarded_of, records_where, blocks_where}
 use Rattle.tr_stream.specs.State.{records_in}
 use Rattle.tr_stream.specs.declared.answers.ClearFault.{ClearFault}
 use Rattle.tr_stream.specs.declared.answers.ClearFault.TheVariants as clear_fault
@@ -17,6 +17,8 @@ use Rattle.tr_stream.specs.declared.answers.Cleared.{Cleared as ClearedCounts}
 use Rattle.tr_stream.specs.declared.answers.CutDone.{CutDone}
 use Rattle.tr_stream.specs.declared.answers.CutFault.{CutFault}
 use Rattle.tr_stream.specs.declared.answers.CutFault.TheVariants as cut_fault
+use Rattle.tr_stream.specs.declared.answers.ForgetFault.{ForgetFault}
+use Rattle.tr_stream.specs.declared.answers.ForgetFault.TheVariants as forget_fault
 use Rattle.tr_stream.specs.declared.answers.OfferFault.{OfferFault}
 use Rattle.tr_stream.specs.declared.answers.OfferFault.TheVariants.{Inactive, TooBig, Spent}
 use Rattle.tr_stream.specs.declared.answers.Offered.{Offered}
@@ -37,7 +39,9 @@ new_history = record {
   closed = [];
   filling = record { number = 0; records = []; discarded = [] };
   cuts = 0;
+  starts = [];
   released = [];
+  forgotten = 0;
   last = 0;
   active = false;
 }
@@ -145,7 +149,11 @@ keep_waiting k (c ∷ cs) = (if is_waiting c.status then record c { status = Kep
 
 -- all is kept in the chunk, and the next one begins
 abbrev pub keep_all : History → History
-keep_all h = record h { closed = keep_waiting h.cuts h.closed; cuts = h.cuts + 1 }
+keep_all h = record h {
+  closed = keep_waiting h.cuts h.closed;
+  cuts = h.cuts + 1;
+  starts = h.starts ++ offered_of h ∷ [];
+}
 
 abbrev pub history_cut_ring : ℕ → History → History
 history_cut_ring end h = keep_all (close_filling h.filling.records end h)
@@ -234,6 +242,27 @@ history_after_release k h = release_chunk_unless (history_release_refusal k h) k
 abbrev pub ReleasesSome : Result Released ReleaseFault → Type 0
 ReleasesSome (Ok released) = released.packets ≢ 0
 ReleasesSome (Err fault) = ⊥
+
+-- why the chunks below this number aren't forgotten: not all of them are closed, or not all were released
+abbrev pub history_forget_refusal : ℕ → History → Option ForgetFault
+history_forget_refusal k h =
+    if nat_lt h.cuts k then Some forget_fault.NoPart
+    else (if are_released k h then None else Some forget_fault.Held)
+
+abbrev pub done_unless : Option ForgetFault → Result (Unit {0}) ForgetFault
+done_unless (Some fault) = Err fault
+done_unless None = Ok tt
+
+-- chunks are forgotten: they keep their blocks, and no fate is told any more of what was offered before the next one began
+abbrev pub history_forget_answer : ℕ → History → Result (Unit {0}) ForgetFault
+history_forget_answer k h = done_unless (history_forget_refusal k h)
+
+abbrev pub forget_chunks_unless : Option ForgetFault → ℕ → History → History
+forget_chunks_unless (Some fault) k h = h
+forget_chunks_unless None k h = record h { forgotten = max k h.forgotten }
+
+abbrev pub history_after_forget : ℕ → History → History
+history_after_forget k h = forget_chunks_unless (history_forget_refusal k h) k h
 
 -- what a peek shows of the stream at a moment: the filling block, if it has a record, as if it were closed
 abbrev pub history_snap : StreamConfig → ℕ → History → SnapState

@@ -1,7 +1,7 @@
 //! What a stream's calls answer.
 
 ghost use Rattle.std.specs.Prelude.{◌≡◌};
-ghost use Rattle.tr_stream.specs.Faults.{clear_fault_code, clear_fault_name, cut_fault_code, cut_fault_name, offer_fault_code, offer_fault_name, release_fault_code, release_fault_name, take_fault_code, take_fault_name};
+ghost use Rattle.tr_stream.specs.Faults.{clear_fault_code, clear_fault_name, cut_fault_code, cut_fault_name, forget_fault_code, forget_fault_name, offer_fault_code, offer_fault_name, release_fault_code, release_fault_name, take_fault_code, take_fault_name};
 
 use std::alloc::AllocError;
 use thiserror::Error;
@@ -303,5 +303,52 @@ impl From<AllocError> for ReleaseFault {
 
     fn from(_error: AllocError) -> ReleaseFault {
         ReleaseFault::NoMemory
+    }
+}
+
+/// Why parts aren't forgotten. The stream is as it was.
+#[derive(Clone, Copy, Debug, PartialEq, Eq, Error)]
+#[error("{} {}", self.code(), self.name())]
+pub enum ForgetFault {
+    /// Not so many parts are closed.
+    NoPart,
+    /// A part below this number isn't released.
+    Held,
+    /// An allocation failed.
+    NoMemory,
+}
+
+impl ForgetFault {
+    /// The code that answers and documents call it by.
+    pub fn code(&self) -> &'static str
+        ensures { result.now ≡ forget_fault_code self.now }
+    {
+        match self {
+            ForgetFault::NoPart => "Z1",
+            ForgetFault::Held => "Z2",
+            ForgetFault::NoMemory => "Z3",
+        }
+    }
+
+    /// Its name, as answers print it.
+    pub fn name(&self) -> &'static str
+        ensures { result.now ≡ forget_fault_name self.now }
+    {
+        match self {
+            ForgetFault::NoPart => "NoPart",
+            ForgetFault::Held => "Held",
+            ForgetFault::NoMemory => "NoMemory",
+        }
+    }
+}
+
+impl From<AllocError> for ForgetFault {
+    ghost use Rattle.std.specs.Prelude.{◌≡◌};
+    ghost use Rattle.tr_stream.specs.declared.answers.ForgetFault.TheVariants.{NoMemory};
+
+    ghost from_gives = { λ _ fault. fault ≡ NoMemory };
+
+    fn from(_error: AllocError) -> ForgetFault {
+        ForgetFault::NoMemory
     }
 }

@@ -29,6 +29,8 @@ pub enum Fate {
         /// The number of its packet.
         seq: u64,
     },
+    /// It was offered before the first part began that isn't forgotten.
+    Forgotten,
 }
 
 /// The fate of a record that is no longer held: each mode loses records in only one way.

@@ -1,8 +1,8 @@
 //! One stream of records: a ring of sub-buffers, and the parts that it is consumed into.
 //! Each call is proved to be a step of the stream's history.
 //!
-//! A history has every block (what one sub-buffer got) that the stream ever filled, and forgets none. `docs/MODEL.md` begins
-//! with an example.
+//! A history has every block (what one sub-buffer got) that the stream ever filled, also of chunks that are forgotten.
+//! `docs/MODEL.md` begins with an example.
 //!
 //! # Example
 //!
@@ -24,11 +24,15 @@
 //!   `cut`, `clear`, `clear_out`, `release`, `release_out`, `peek`, `peek_out`, `set_active`: `value`, `step`).
 //! - So are the stream's counts, its parts, the records of its ring by their places, and the fate of each serial. The stream
 //!   keeps no list of what it lost. Of what was cleared or released it keeps which serials each packet had (`Stream::counts`,
-//!   `part` (`closed_part`), `ring_at` (`history_ring`), `fate_of`: `value`, `step`).
+//!   `part` (`part_known_in`), `ring_at` (`history_ring`), `fate_of`: `value`, `step`).
 //! - A clear removes what the ring and the current chunk hold, and nothing else: closed chunks stay as they are, no number and
 //!   no serial is used again, and what was discarded stays discarded (`Stream::clear`, `clear_out`: `value`, `step`).
 //! - A release gives up the packets of a closed chunk, once, and nothing else: what became of each record, and how many
 //!   packets, records and bytes the chunk had, is answered as before (`Stream::release`, `release_out`: `value`, `step`).
+//! - Chunks that were released can be forgotten, all below a number: then nothing is kept of their parts, and of what was
+//!   offered before the next one began the fate is `Forgotten`; all counts, and what is answered of other chunks and later
+//!   offers, stay (`Stream::forget`: `value`, `step` (`history_after_forget`), `no_memory`; `part`: `step` (`part_known_in`),
+//!   `forgetful`; `kept_part`).
 //! - Out of memory comes only if something waits (take), in a local session (cut), or with packets (clear, release), and
 //!   changes nothing. A page that a take or a cut moves into a part is replaced by a spare one, which may be handed in before;
 //!   no contract says how many pages move and how many are copied (`Stream::take`, `cut`, `clear`, `clear_out`, `release`,
@@ -79,8 +83,8 @@ mod spares;
 mod stream;
 
 pub use answers::{
-    ClearFault, Cleared, CutDone, CutFault, OfferFault, Offered, ReleaseFault, Released, TakeFault,
-    Taken,
+    ClearFault, Cleared, CutDone, CutFault, ForgetFault, OfferFault, Offered, ReleaseFault,
+    Released, TakeFault, Taken,
 };
 pub use config::StreamConfig;
 pub use events::{StreamAnswer, StreamEvent};

@@ -6,11 +6,13 @@ ghost use Rattle.tr_packet.specs.Packets.{Contents, IsPacket, packet_text};
 ghost use Rattle.tr_stream.specs.Images.{packets_standing};
 ghost use Rattle.tr_stream.specs.Spares.{spares_state};
 ghost use Rattle.tr_stream.specs.Answers.{answer_of};
-ghost use Rattle.tr_stream.specs.Calls.{part_in, IsConsistent, history_fate, all_parts, fate_in_parts, state_fate, held_fate, History, IsKept, IsSound, StandsFor, in_ring, in_parts, new_state, overwrites, refusal_of, state_entry, state_with_offer, offered_as, state_offer_answer, state_after_offer, state_take_answer, state_after_take, cut_done, state_cut_answer, state_cut_ring, state_after_cut, ClearsSome, ReleasesSome, state_cleared, state_clear_answer, state_clear_ring, state_after_clear, state_release_answer, state_after_release, state_after_switch, state_snap, state_counts, new_history, history_offer_answer, history_after_offer, history_take_answer, history_after_take, history_cut_answer, history_after_cut, history_clear_answer, history_after_clear, history_release_answer, history_after_release, history_after_switch, history_snap, history_counts, part_at, push_answer, ring_records, history_ring};
+ghost use Rattle.tr_book.specs.Parts.{IsForgetful};
+ghost use Rattle.tr_stream.specs.StateSteps.{is_part_released};
+ghost use Rattle.tr_stream.specs.Calls.{known_from, part_known, part_known_in, state_forget_answer, state_after_forget, state_forget_refusal, history_forget_answer, history_after_forget, IsConsistent, history_fate, all_parts, fate_in_parts, state_fate, held_fate, History, IsKept, IsSound, StandsFor, in_ring, in_parts, new_state, overwrites, refusal_of, state_entry, state_with_offer, offered_as, state_offer_answer, state_after_offer, state_take_answer, state_after_take, cut_done, state_cut_answer, state_cut_ring, state_after_cut, ClearsSome, ReleasesSome, state_cleared, state_clear_answer, state_clear_ring, state_after_clear, state_release_answer, state_after_release, state_after_switch, state_snap, state_counts, new_history, history_offer_answer, history_after_offer, history_take_answer, history_after_take, history_cut_answer, history_after_cut, history_clear_answer, history_after_clear, history_release_answer, history_after_release, history_after_switch, history_snap, history_counts, part_at, push_answer, ring_records, history_ring};
 
 use crate::answers::{
-    ClearFault, Cleared, CutDone, CutFault, OfferFault, Offered, ReleaseFault, Released, TakeFault,
-    Taken,
+    ClearFault, Cleared, CutDone, CutFault, ForgetFault, OfferFault, Offered, ReleaseFault,
+    Released, TakeFault, Taken,
 };
 use crate::config::StreamConfig;
 use crate::fate::{Fate, loss};
@@ -414,6 +416,34 @@ impl<A: Allocator + Copy> Stream<A> {
         Ok(Removed::new(self.parts.release_out(k)?))
     }
 
+    /// Forgets the closed parts below `k`, all of which were released: the runs of their packets go, and so does all that a part
+    /// takes by itself. Counts stay as they are; of what was offered before part `k` began, a fate is only that it is forgotten.
+    /// A forget that is refused, also because an allocation failed, changes nothing; but what it asks for has no bytes.
+    pub fn forget(&mut self, k: u64) -> Result<(), ForgetFault>
+        ensures value { result ≢ Err ForgetFault.NoMemory
+            → (result ≡ state_forget_answer k self.old) × (self.new ≡ state_after_forget k self.old) }
+        ensures step { (h : History) → StandsFor self.old h → result ≢ Err ForgetFault.NoMemory →
+            (result ≡ history_forget_answer k h)
+            × StandsFor self.new (history_after_forget k h) }
+        ensures no_memory { result ≡ Err ForgetFault.NoMemory → self.new ≡ self.old }
+        ensures config { self.new.config ≡ self.old.config }
+    {
+        match self.forget_refusal(k) {
+            Some(fault) => Err(fault),
+            None => Ok(self.forget_released(k)?),
+        }
+    }
+
+    /// Forgets closed parts that were released.
+    fn forget_released(&mut self, k: u64) -> Result<(), AllocError>
+        requires { state_forget_refusal k self.old ≡ None }
+        ensures ok { OnOk result (self.new ≡ state_after_forget k self.old) }
+        ensures err { OnErr result (self.new ≡ self.old) }
+    {
+        self.parts.forget(k)?;
+        Ok(())
+    }
+
     /// What the stream has now: how many offers it accepted, how many records it discarded, and copies of the packets that
     /// its ring holds, with the current sub-buffer's, as if it were closed at this moment, or at the last one if that is
     /// later. Nothing changes. It takes memory only if there are packets.
@@ -476,8 +506,14 @@ impl<A: Allocator> Stream<A> {
         ensures value { result ≡ state_release_answer k self.now }
         ensures reason { result ≢ Err ReleaseFault.NoMemory }
     {
-        let Some(part) = self.parts.closed().get(k as usize) else {
+        if k >= self.parts.cuts() {
             return Err(ReleaseFault::NoPart);
+        }
+        if k < self.parts.forgotten() {
+            return Err(ReleaseFault::Released);
+        }
+        let Some(part) = self.part(k) else {
+            unreachable!()
         };
         if part.is_released() {
             return Err(ReleaseFault::Released);
@@ -487,6 +523,33 @@ impl<A: Allocator> Stream<A> {
             records: part.records(),
             bytes: part.bytes(),
         })
+    }
+
+    /// Why the parts below `k` can't be forgotten, if so.
+    fn forget_refusal(&self, k: u64) -> Option<ForgetFault>
+        ensures { result ≡ state_forget_refusal k self.now }
+    {
+        if k > self.parts.cuts() {
+            return Some(ForgetFault::NoPart);
+        }
+        for at in self.parts.forgotten()..k {
+            if !self.is_released(at) {
+                return Some(ForgetFault::Held);
+            }
+        }
+        None
+    }
+
+    /// Whether closed part `k`, which isn't forgotten, was released.
+    fn is_released(&self, k: u64) -> bool
+        requires closed { k < length self.now.parts.closed }
+        requires known { self.now.parts.forgotten ≤ k }
+        ensures { result ≡ is_part_released k self.now }
+    {
+        let Some(part) = self.part(k) else {
+            unreachable!()
+        };
+        part.is_released()
     }
 
     /// Lets the stream take offers, or makes it refuse them.
@@ -523,12 +586,24 @@ impl<A: Allocator> Stream<A> {
         }
     }
 
-    /// The part of trace chunk `k`: a closed one, or the current one after them. None if no such chunk was begun.
+    /// The part of trace chunk `k`: a closed one, or the current one after them. None if no such chunk was begun, or if the part is
+    /// forgotten.
     pub fn part(&self, k: u64) -> Option<&Part<A>>
-        ensures value { option_copied result ≡ part_at k self.now.parts }
-        ensures step { (h : History) → StandsFor self.now h → option_copied result ≡ part_in self.now.config k h }
+        ensures value { option_copied result ≡ part_known k self.now.parts }
+        ensures step { (h : History) → StandsFor self.now h → option_copied result ≡ part_known_in self.now.config k h }
+        ensures forgetful { IsForgetful self.now.parts }
     {
+        // (read for the proof, which learns that what is forgotten was released)
+        let _ = self.parts.forgotten();
         self.parts.part(k)
+    }
+
+    /// The same where no part of the stream is forgotten: none only if no such chunk was begun.
+    pub fn kept_part(&self, chunk: u64) -> Option<&Part<A>>
+        requires { self.now.parts.forgotten ≡ 0 }
+        ensures { option_copied result ≡ part_at chunk self.now.parts }
+    {
+        self.part(chunk)
     }
 
     /// What became of the accepted offer with this serial. None if there was no such offer yet.
@@ -539,6 +614,9 @@ impl<A: Allocator> Stream<A> {
         if serial >= self.counters.offered() {
             return None;
         }
+        if serial < self.parts.known_from() {
+            return Some(Fate::Forgotten);
+        }
         match self.held_fate(serial) {
             Some(fate) => Some(fate),
             None => Some(loss(self.config.mode)),
@@ -548,8 +626,11 @@ impl<A: Allocator> Stream<A> {
     /// The trace chunk that the record with this serial is in, if it is in one: only one part can have it, by where parts
     /// began.
     fn chunk_fate(&self, serial: u64) -> Option<Fate>
+        requires { known_from self.now.parts ≤ serial }
         ensures { result ≡ fate_in_parts serial (all_parts self.now.parts) }
     {
+        // (read for the proof, which learns that no more parts are forgotten than are closed)
+        let _ = self.parts.forgotten();
         let Some(part) = self.parts.part(self.parts.place_of(serial)) else {
             unreachable!()
         };
@@ -564,6 +645,7 @@ impl<A: Allocator> Stream<A> {
 
     /// Where the record with this serial is held, or was cleared, if anywhere.
     fn held_fate(&self, serial: u64) -> Option<Fate>
+        requires { known_from self.now.parts ≤ serial }
         ensures { result ≡ held_fate serial self.now }
     {
         if let Some(fate) = self.chunk_fate(serial) {

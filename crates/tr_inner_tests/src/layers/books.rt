@@ -70,9 +70,8 @@ fn parts_sum_up_their_packets(rt: HostRuntime) {
 
 /// Asserts that one part is closed, which has the packets 0 and 1, with the records 0 to 3.
 fn assert_only_closed(rt: &impl Abort, parts: &Parts) {
-    let [first] = parts.closed() else {
-        panic!(rt; "one closed part")
-    };
+    assert_same(rt, parts.cuts(), 1);
+    let first = parts.part(0).expect(rt, "a closed part");
     assert_part(rt, first, (0, 4, 484));
     assert_packets(rt, first.packets(), (2, 1));
     assert_same(rt, (first.seq_of(1), first.seq_of(8)), (Some(0), None));

@@ -159,16 +159,16 @@ fn lines_of(out: &[u8]) -> (usize, bool) {
     (lines, out.is_empty() || out.ends_with(b"\n"))
 }
 
-/// How many lines are known once the folders have answered so many calls: 14 for what is there and the metadata, and then for
-/// each file one to open it, one for its bytes if it has some, and one for its end.
+/// How many lines are known once the folders have answered so many calls: 14 for what is there and the metadata, three for the
+/// events that these declare, and then for each file one to open it, one for its bytes if it has some, and one for its end.
 fn lines_known(calls: u64) -> usize {
     match calls {
         0..=13 => 0,
-        14..=15 => 1,
-        16..=19 => 3,
-        20..=23 => 4,
-        24..=26 => 5,
-        27..=29 => 6,
+        14..=18 => 1,
+        19..=22 => 3,
+        23..=26 => 4,
+        27..=29 => 5,
+        30..=32 => 6,
         _ => 8,
     }
 }

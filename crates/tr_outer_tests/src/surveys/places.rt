@@ -6,7 +6,19 @@ use std::process::Abort;
 
 /// A session of two archives, each with a file of stream 0, says this of the stream.
 fn says<R: Abort>(rt: &R, alloc: Global, things: &[Thing], expected: &str, faults: u64) {
-    let mut room = furnished(rt, alloc, &SESSION);
+    says_in(rt, alloc, &SESSION, things, expected, faults);
+}
+
+/// The same of a session with this metadata.
+fn says_in<R: Abort>(
+    rt: &R,
+    alloc: Global,
+    session: &[Thing],
+    things: &[Thing],
+    expected: &str,
+    faults: u64,
+) {
+    let mut room = furnished(rt, alloc, session);
     for thing in things {
         room.thing(thing);
     }
@@ -96,6 +108,56 @@ stream 0 c packets 2 records 4 absent 0 lost 9 last 1 8 from 3 to 50
 whole
 ";
     says(&rt, rt.alloc(), &EVERYWHERE, expected, 0);
+}
+
+/// The first archive declares an event of the records' id, the second one none.
+static NAMED: [Thing; 5] = [
+    Thing::Session(&["0", "1"]),
+    Thing::Typed("0", 1, "log 7 bytes:bytes"),
+    Thing::Metadata("1", 1),
+    Thing::Archive("0", &["c_0"]),
+    Thing::Archive("1", &["c_0"]),
+];
+
+#[test]
+fn records_have_their_events_names(rt: HostRuntime) {
+    let expected = "session s uuid 00000000-0000-0000-0000-000000000001 archives 2
+lost 0 1 between 0 3 log and 0 5
+lost 0 2 between 0 3 log and 1 10 log
+lost 0 2 between 1 10 log and 1 20 log
+lost 0 4 between 1 30 log and 1 50
+stream 0 c packets 2 records 4 absent 0 lost 9 last 1 8 from 3 to 50
+whole
+";
+    says_in(&rt, rt.alloc(), &NAMED, &EVERYWHERE, expected, 0);
+}
+
+/// The first archive's metadata are another trace's, so that they don't count; the second ones declare events, but none of the
+/// records' id.
+static UNDECLARED: [Thing; 8] = [
+    Thing::Session(&["0", "1", "2"]),
+    Thing::Typed("0", 2, "log 7 bytes:bytes"),
+    Thing::Typed("1", 1, "queue 3 depth:u8\nstate 9 at:x64"),
+    Thing::Typed("2", 1, "log 7 bytes:bytes"),
+    Thing::Archive("0", &["c_0"]),
+    Thing::Archive("1", &["c_0"]),
+    Thing::Archive("2", &["c_0"]),
+    Thing::Timed("2", "c_0", 0, &[(2, 11, 60, &[(15, 60)])]),
+];
+
+#[test]
+fn records_of_undeclared_ids_have_none(rt: HostRuntime) {
+    let expected = "session s uuid 00000000-0000-0000-0000-000000000001 archives 3
+fault 19700101T000000+0000-19700101T000000+0000-0 another uuid
+lost 0 1 between 0 3 - and 0 5
+lost 0 2 between 0 3 - and 1 10 -
+lost 0 2 between 1 10 - and 1 20 -
+lost 0 4 between 1 30 - and 1 50
+lost 0 2 between 1 30 - and 2 60 -
+stream 0 c packets 3 records 5 absent 0 lost 11 last 2 15 from 3 to 60
+faulty 1
+";
+    says_in(&rt, rt.alloc(), &UNDECLARED, &EVERYWHERE, expected, 1);
 }
 
 /// Where numbers are absent, other records took serials too. How many were discarded after the last record of packet 2 isn't

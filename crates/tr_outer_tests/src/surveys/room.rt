@@ -3,6 +3,7 @@
 use crate::asserting::assert_same;
 use std::alloc::Global;
 use std::process::Abort;
+use tr_events::Events;
 use tr_folders::MemoryFolders;
 use tr_packet::{Head, Packet, encode_packet, metadata_text};
 use tr_record::{MemorySink, Rec};
@@ -177,6 +178,13 @@ impl<'a, R: Abort> Room<'a, R> {
         self.file(archive, "metadata", text.into_bytes());
     }
 
+    /// Metadata that declare what these lines do.
+    fn typed_metadata(&mut self, archive: &str, uuid: Uuid, lines: &str) {
+        let events = Events::parse(self.alloc, lines.as_bytes()).expect(self.rt, "events");
+        let text = tr_metadata::metadata_text(self.alloc, &events, &uuid).expect(self.rt, "memory");
+        self.file(archive, "metadata", text.into_bytes());
+    }
+
     fn packets(&mut self, archive: &str, name: &str, stream: u64, rows: &[Row]) {
         let bytes = packets(self.rt, self.alloc, 1, stream, rows);
         self.file(archive, name, bytes);
@@ -218,6 +226,8 @@ pub(crate) enum Thing {
     Archive(&'static str, &'static [&'static str]),
     /// The metadata of an archive, which name this identifier.
     Metadata(&'static str, u8),
+    /// The same, which declare what these lines do.
+    Typed(&'static str, u8, &'static str),
     /// A file of an archive with packets of a stream, as `packets` takes them.
     Packets(&'static str, &'static str, u64, &'static [Row]),
     /// The same, where records have moments of their own.
@@ -230,6 +240,9 @@ impl<'a, R: Abort> Room<'a, R> {
             Thing::Session(archives) => self.session(archives),
             Thing::Archive(number, files) => self.archive(number, files),
             Thing::Metadata(archive, last) => self.metadata(archive, uuid(*last)),
+            Thing::Typed(archive, last, lines) => {
+                self.typed_metadata(archive, uuid(*last), lines);
+            }
             Thing::Packets(archive, name, stream, rows) => {
                 self.packets(archive, name, *stream, rows);
             }

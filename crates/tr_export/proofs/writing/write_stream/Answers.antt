@@ -7,8 +7,8 @@ use Rattle.tr_export.proofs.writing.write_stream.Goals as goal
 
 pub write_file-requires : goal.write_file-requires
 write_file-requires g c =
-    part-held c.args.id c.args.i c.args.session.now c.in-Some-stream.stream.now c.in-Some-part.part.now c.requires
-    (sym c.in-Some-stream.ensures.value) (sym c.in-Some-part.ensures.value)
+    part-held c.args.id c.args.i c.args.session.now c.in-Some-stream.stream.now c.in-Some-kept_part.part.now c.requires
+    (sym c.in-Some-stream.ensures.value) (sym c.in-Some-kept_part.ensures)
 
 pub returns-in_err-name-clause-err : goal.returns-in_err-name-clause-err
 returns-in_err-name-clause-err g c =

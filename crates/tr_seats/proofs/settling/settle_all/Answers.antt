@@ -1,5 +1,6 @@
 use Rattle.std.proofs.Common.{◌≡◌, ℕ, ◌+◌, ◌<◌, List, [], ap, arith, get_or, length, refl, subst, sym, ◌∙◌}
 use Rattle.std.specs.List.{AllByRecursion}
+use Rattle.std.specs.Prelude.{IsTrue, ◌↔◌}
 use Rattle.std.proofs.lemmas.Grind.{common_steps}
 use Rattle.std.proofs.lemmas.List.{length-map}
 use Rattle.tr_accounts.specs.declared.step.StreamStep.{StreamStep}
@@ -16,7 +17,7 @@ use Rattle.tr_seats.specs.Books.{Books, IsPlanned, PlanState, cleared_books, con
 use Rattle.tr_seats.specs.Desks.{DeskState}
 use Rattle.tr_seats.specs.Drainers.{DrainerState, taken_at}
 use Rattle.tr_seats.specs.Histories.{AreDeskWith, IsHistoryOf, operations_in, takes_joined}
-use Rattle.tr_seats.specs.Operators.{HaveDone}
+use Rattle.tr_seats.specs.Operators.{AreAllOperators, HaveDone}
 use Rattle.tr_seats.specs.Settling.{AddUp, AreInPlace, HaveCleared, HaveConsumed, IsOneEach, IsSessionOf, WereConsumed, streams_of, taken_of, totals_of_seats}
 use Rattle.tr_seats.specs.Slots.{AreSeatsOf, IsOwn, ProducerState, SlotState, amounts_of}
 use Rattle.tr_seats.specs.Sums.{totals_in, totals_of}
@@ -70,8 +71,8 @@ from_parts-requires g c =
     let planned : ArePlanned plan all = subst (ArePlanned plan) slots c.join_all.ensures.planned in
     let cut : AreCutAs (c.desk.inside.cuts.items, all) = subst AreCutAs (λ j. (cuts j, slots j)) c.join_all.ensures.cut in
     subst (λ (x : SessionBookState × List StreamState). HasItsStreams (session_of x.0 x.1)) (λ j. (sym c.into_parts-book.ensures.book j, sym items j))
-    (settled-streams plan c.desk.inside.book c.desk.inside.consumed.items c.desk.inside.cuts.items c.desk.inside.cleared.items all c.desk.invariant c.requires.slots planned
-    cut)
+    (settled-streams plan c.desk.inside.book.book c.desk.inside.consumed.items c.desk.inside.cuts.items c.desk.inside.cleared.items all c.desk.invariant c.requires.slots planned
+    cut (subst (AllByRecursion HoldsItsParts) items c.streams_out-streams.ensures.held))
 
 pub returns-clause-planned : goal.returns-clause-planned
 returns-clause-planned g c =
@@ -84,10 +85,10 @@ returns-clause-planned g c =
     let items : c.streams_out-streams.result.items ≡ streams_of all = c.streams_out-streams.ensures.streams ∙ ap streams_of back in
     let planned : ArePlanned plan all = subst (ArePlanned plan) slots c.join_all.ensures.planned in
     let cut : AreCutAs (c.desk.inside.cuts.items, all) = subst AreCutAs (λ j. (cuts j, slots j)) c.join_all.ensures.cut in
-    let made : c.of.result ≡ session_of c.desk.inside.book (streams_of all) =
+    let made : c.of.result ≡ session_of c.desk.inside.book.book (streams_of all) =
     c.of.ensures ∙ c.from_parts.ensures ∙ (λ j. session_of (c.into_parts-book.ensures.book j) (items j)) in
     subst (IsSessionOf plan) (sym made)
-    (settled-planned plan c.desk.inside.book c.desk.inside.consumed.items c.desk.inside.cuts.items c.desk.inside.cleared.items all c.desk.invariant c.requires.slots planned
+    (settled-planned plan c.desk.inside.book.book c.desk.inside.consumed.items c.desk.inside.cuts.items c.desk.inside.cleared.items all c.desk.invariant c.requires.slots planned
     cut (subst (AllByRecursion HoldsItsParts) items c.streams_out-streams.ensures.held))
 
 pub returns-clause-session : goal.returns-clause-session
@@ -280,6 +281,11 @@ HaveHistoriesIn x =
 
 abbrev AreOperationsOf : ℕ → List (noted.SeatState StreamStep) → List (noted.SeatState StreamStep) → Type 0
 AreOperationsOf n new old = (i : ℕ) (d : noted.SeatState StreamStep) → i < n → (get_or new i d).own ≡ (get_or old i d).own
+
+pub returns-clause-lent : goal.returns-clause-lent
+returns-clause-lent g c =
+    subst (λ (d : DeskState). IsTrue c.into_parts-book.result.2 ↔ AreAllOperators d.operators c.args.operators.now) c.desk.view_is
+    c.into_parts-book.ensures.lent
 
 pub returns-clause-histories : goal.returns-clause-histories
 returns-clause-histories g c =

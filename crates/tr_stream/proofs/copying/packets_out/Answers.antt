@@ -1,4 +1,4 @@
-use Rattle.std.proofs.Common.{rules, ◌≡◌, ◌≢◌, length}
+use Rattle.std.proofs.Common.{rules, ◌≢◌, length}
 use Rattle.tr_stream.proofs.LookLemmas.{on-err}
 use Rattle.tr_stream.proofs.PageLemmas.{some-buffers}
 use Rattle.tr_stream.proofs.copying.packets_out.Goals as goal

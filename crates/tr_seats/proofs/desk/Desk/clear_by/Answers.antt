@@ -8,7 +8,7 @@ use Rattle.tr_seats.proofs.PlannedLemmas.{planned-mode}
 use Rattle.tr_seats.proofs.Rows.{amounts-raised, cleared-at, length-seats, table-there}
 use Rattle.tr_seats.proofs.desk.Desk.clear_by.Goals as goal
 use Rattle.tr_seats.specs.Books.{Books, books_at, cleared_books, no_books, no_table}
-use Rattle.tr_seats.specs.Desks.{DeskState, IsDesk, desk_state}
+use Rattle.tr_seats.specs.Desks.{DeskState, IsDesk, NotedState, desk_state}
 use Rattle.tr_seats.specs.Slots.{amounts_of}
 
 pub index_mut-requires : goal.index_mut-requires
@@ -35,8 +35,8 @@ invariant_of-self-2 g c =
     let i = c.args.i in
     let here : i ≡ c.number.result = search rules in
     let lt : i < length plan.books = subst (λ (n : ℕ). n < length plan.books) (sym here) c.number.ensures.there in
-    subst (λ b. IsDesk plan b old.consumed.items old.cuts.items (slice_set old.cleared.items i c.clear.new.cleared)) (sym c.clear.ensures.same)
-    (desk-cleared plan old.book old.consumed.items old.cuts.items old.cleared.items i c.index_mut.result.now c.self.invariant lt
+    subst (λ (b : NotedState). IsDesk plan b.book old.consumed.items old.cuts.items (slice_set old.cleared.items i c.clear.new.cleared)) (sym c.clear.ensures.same)
+    (desk-cleared plan old.book.book old.consumed.items old.cuts.items old.cleared.items i c.index_mut.result.now c.self.invariant lt
     c.index_mut.ensures.value c.in-Ok.done.records c.clear.new.cleared c.in-Ok.ensures.seat)
 
 pub returns-clause-seats : goal.returns-clause-seats

@@ -6,7 +6,7 @@ use Rattle.tr_seats.proofs.DeskLemmas.{desk-cut}
 use Rattle.tr_seats.proofs.Rows.{amounts-raised, consumed-at, cuts-at, table-there}
 use Rattle.tr_seats.proofs.desk.Desk.cut_at.Goals as goal
 use Rattle.tr_seats.specs.Books.{Books, books_at, consumed_books, cut_books, no_books, no_table}
-use Rattle.tr_seats.specs.Desks.{DeskState, IsDesk, desk_state}
+use Rattle.tr_seats.specs.Desks.{DeskState, IsDesk, NotedState, desk_state}
 use Rattle.tr_seats.specs.Slots.{amounts_of}
 use Rattle.tr_session_book.specs.BookSteps.{cut_moment, with_cut}
 
@@ -33,12 +33,12 @@ invariant_of-self-2 g c =
     let plan = g.N.Names.plan in
     let old = c.self.inside in
     let i = c.args.i in
-    let due : cut_moment i old.book ≡ Ok c.args.moment =
+    let due : cut_moment i old.book.book ≡ Ok c.args.moment =
     subst (λ (d : DeskState). cut_moment i d.book ≡ Ok c.args.moment) (sym c.self.view_is) c.requires.due in
     let consumed = slice_set old.consumed.items i c.cut.new.consumed in
     let cuts = slice_set old.cuts.items i c.cut.new.cuts in
-    subst (λ b. IsDesk plan b consumed cuts old.cleared.items) (sym c.in-Ok.ensures.after)
-    (desk-cut plan old.book old.consumed.items old.cuts.items old.cleared.items i c.args.moment c.index_mut.result.now c.index_mut-2.result.now
+    subst (λ (b : NotedState). IsDesk plan b.book consumed cuts old.cleared.items) (sym c.in-Ok.ensures.after)
+    (desk-cut plan old.book.book old.consumed.items old.cuts.items old.cleared.items i c.args.moment c.index_mut.result.now c.index_mut-2.result.now
     c.self.invariant due c.requires.here.1 c.index_mut.ensures.value c.index_mut-2.ensures.value c.in-Ok.done.records
     c.cut.new.consumed c.cut.new.cuts c.in-Ok.ensures.consumed c.in-Ok.ensures.cuts)
 

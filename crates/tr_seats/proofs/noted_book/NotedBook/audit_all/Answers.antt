@@ -3,9 +3,9 @@ use Rattle.tr_journal.specs.Journals.{JournalState}
 use Rattle.tr_operations.specs.declared.step.DeskStep.{DeskStep}
 use Rattle.tr_seats.proofs.OperatorLemmas.{done-by-all}
 use Rattle.tr_seats.proofs.noted_book.NotedBook.audit_all.Goals as goal
+use Rattle.tr_seats.specs.Desks.{NotedState}
 use Rattle.tr_seats.specs.Histories.{operations_in}
 use Rattle.tr_seats.specs.Operators.{HaveDone, IsDeskJournal}
-use Rattle.tr_session_book.specs.Book.{SessionBookState}
 
 pub invariant_of-self : goal.invariant_of-self
 invariant_of-self g c =
@@ -20,7 +20,7 @@ returns-clause-own g c =
     let operators = c.args.operators.now in
     let all = c.audit_operators in (
       operations_in old.streams.items,
-      subst (λ (book : SessionBookState). HaveDone plan.session.book operators all.result book (operations_in old.streams.items)) c.self.view_is
+      subst (λ (b : NotedState). HaveDone plan.session.book operators all.result b.book (operations_in old.streams.items)) c.self.view_is
           (done-by-all plan old.operators old.book old.journal old.streams.items operators all.result c.self.invariant all.ensures.own
           all.ensures.none_missing),
     )

@@ -17,7 +17,7 @@ invariant_of-self g c =
     let k = c.number-stream.result in
     let done = c.in-Ok.done in
     let due : cut_moment k old.book ≡ Ok c.args.moment =
-    (λ j. cut_moment (c.number-stream.ensures.number j) (c.self.view_is j)) ∙ c.requires.due in
+    (λ j. cut_moment (c.number-stream.ensures.number j) (c.self.view_is j).book) ∙ c.requires.due in
     let allowed : IsOk (cut_moment k old.book) = ap is_ok due in
     let cut = cuts_at (cut_moment k old.book) done in
     journal-done plan old.operators old.book c.note_cut.new.self old.journal c.note.new.journal c.operator.inside.seat.who c.operator.invariant.2 c.note.ensures.own.each.0.0 (step.Cut k (Ok done))
@@ -32,7 +32,7 @@ invariant_of-self-in-Err g c =
     let k = c.number-stream.result in
     let after = c.note-in-Err.new.journal in
     let due : cut_moment k old.book ≡ Ok c.args.moment =
-    (λ j. cut_moment (c.number-stream.ensures.number j) (c.self.view_is j)) ∙ c.requires.due in
+    (λ j. cut_moment (c.number-stream.ensures.number j) (c.self.view_is j).book) ∙ c.requires.due in
     let allowed : IsOk (cut_moment k old.book) = ap is_ok due in
     let same = put-back old.streams.items k c.cut.new.desk c.index_mut.result.now (c.in-Err.ensures.desk ∙ c.index_mut.ensures.value) in
     subst (IsDeskJournal plan old.operators old.book after) (sym same)

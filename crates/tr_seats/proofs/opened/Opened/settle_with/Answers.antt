@@ -1,6 +1,8 @@
 use Rattle.std.proofs.Common.{◌≡◌, ℕ, List, ap, length, subst, sym, ◌∙◌, arith}
 use Rattle.std.proofs.lemmas.Grind.{common_steps}
+use Rattle.std.specs.Prelude.{IsTrue, ◌↔◌}
 use Rattle.tr_seats.proofs.opened.Opened.settle_with.Goals as goal
+use Rattle.tr_seats.specs.Operators.{AreAllOperators}
 use Rattle.tr_seats.specs.Settling.{AddUp, AreAccountsOf, ArePacketsOf, AreTheirs, HaveCleared, HaveConsumed, HaveOneHistory, IsWhy, OpenedState, WereConsumed, opened_state, streams_of, totals_of_seats}
 use Rattle.tr_seats.specs.Slots.{ProducerState}
 use Rattle.tr_seats.specs.Sums.{totals_of}
@@ -71,3 +73,8 @@ returns-in-None-clause-histories g c =
     let all = c.settle_all.result.2 in
     subst (λ (s : SessionOf StreamState). HaveOneHistory planned c.args.operators.now all c.args.producers.items c.args.drainers.items s.book s.streams)
     (sym c.settle_all.ensures.session) c.settle_all.ensures.histories
+
+pub returns-in-None-clause-lent : goal.returns-in-None-clause-lent
+returns-in-None-clause-lent g c =
+    subst (λ (o : OpenedState). IsTrue c.settle_all.result.2 ↔ AreAllOperators o.desk.operators c.args.operators.now) c.self.view_is
+    c.settle_all.ensures.lent

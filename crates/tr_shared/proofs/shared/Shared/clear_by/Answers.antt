@@ -1,9 +1,9 @@
-use Rattle.std.proofs.Common.{◌≡◌, ◌∙◌, ◌+◌, ◌++◌, List, Ok, arith, length, map, subst, sym}
+use Rattle.std.proofs.Common.{◌≡◌, ◌∙◌, ◌+◌, List, Ok, arith, length, map, subst, sym}
 use Rattle.std.proofs.lemmas.Grind.{common_steps}
 use Rattle.std.specs.Prelude.{sum}
 use Rattle.tr_operations.specs.declared.step.DeskStep.TheVariants.{Clear}
 use Rattle.tr_seats.specs.Clears.{desk_clear_answer}
-use Rattle.tr_seats.specs.Operators.{with_step}
+use Rattle.tr_seats.specs.Operators.{with_step, with_steps}
 use Rattle.tr_shared.proofs.StepLemmas.{clear-here, clears-more}
 use Rattle.tr_shared.proofs.shared.Shared.clear_by.Goals as goal
 use Rattle.tr_shared.specs.Operators.{clears_from}
@@ -27,7 +27,7 @@ loop-i-preserved g c =
       few = omega (arith, v.few, c.from-records.ensures);
       done = subst (λ n. (more : List Cleared) × (length more ≡ i + 1)
           × (c.loop-i.records + n ≡ sum (map (λ (d : Cleared). d.records) more))
-          × (c.clear_by.new.operator ≡ c.args.operator.now ++ clears_from 0 more)) (sym c.from-records.ensures)
+          × (c.clear_by.new.operator ≡ with_steps (clears_from 0 more) c.args.operator.now)) (sym c.from-records.ensures)
           (clears-more i c.loop-i.records c.args.operator.now c.loop-i.operator c.clear_by.new.operator v.done.0 done v.done.1 v.done.2
           v.done.3 step);
     }

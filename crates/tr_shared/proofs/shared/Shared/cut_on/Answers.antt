@@ -1,11 +1,10 @@
-use Rattle.std.proofs.Common.{[], sym}
-use Rattle.std.proofs.lemmas.List.{append-nil}
+use Rattle.std.proofs.Common.{[]}
 use Rattle.std.proofs.lemmas.Result.{err_from_is_err_and}
-use Rattle.tr_shared.proofs.StepLemmas.{cuts-more, cuts-stopped}
+use Rattle.tr_shared.proofs.StepLemmas.{cuts-more, cuts-stopped, with-none}
 use Rattle.tr_shared.proofs.shared.Shared.cut_on.Goals as goal
 
 pub loop-init : goal.loop-init
-loop-init g c = ([], tt, sym (append-nil c.args.operator.now))
+loop-init g c = ([], tt, with-none c.args.operator.now)
 
 pub loop-preserved : goal.loop-preserved
 loop-preserved g c =

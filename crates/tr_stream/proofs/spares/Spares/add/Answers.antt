@@ -1,9 +1,9 @@
-use Rattle.std.proofs.Common.{◌≡◌, ◌++◌, ◌∷◌, [], ◌∙◌, ap, subst, sym}
+use Rattle.std.proofs.Common.{◌∙◌, ap, subst, sym}
 use Rattle.std.specs.List.{AllByRecursion}
 use Rattle.tr_record.proofs.RecordLemmas.{all_push}
 use Rattle.tr_ring.specs.Pages.{IsFree}
 use Rattle.tr_stream.specs.Spares.{SparesState}
-use Rattle.tr_subbuf.specs.SubBuffer.{SubBuffer, empty_buffer}
+use Rattle.tr_subbuf.specs.SubBuffer.{empty_buffer}
 use Rattle.tr_stream.proofs.spares.Spares.add.Goals as goal
 
 pub invariant_of-self-2 : goal.invariant_of-self-2

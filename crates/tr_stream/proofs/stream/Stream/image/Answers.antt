@@ -1,5 +1,4 @@
-use Rattle.std.proofs.Common.{◌≡◌, Some, length, slice_get, ap, subst, sym, ◌∙◌, ◌≤◌, List, [], arith}
-use Rattle.tr_record.specs.Records.{Entry}
+use Rattle.std.proofs.Common.{length, slice_get, ap, subst, sym, ◌∙◌, ◌≤◌}
 use Rattle.tr_stream.specs.Images.{packets_standing}
 use Rattle.tr_stream.specs.State.{StreamState, stream_state}
 use Rattle.tr_stream.proofs.ImageLemmas.{none-standing, standing}
