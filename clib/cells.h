@@ -47,7 +47,7 @@ enum {
 /* Refusals of the session, a stream, a schedule and an audit are the numbers of the product's own codes: 100 + n for Sn,
  * 200 + n for On (offer), 300 + n for Tn (take), 400 + n for Cn (cut), 500 + n for Xn (clear), 600 + n for Yn (release),
  * 700 + n for Dn (schedule), 800 + n for An (audit), 900 + n for Gn (geometry), 1000 + n for Vn (a line of
- * declarations). */
+ * declarations), 1200 + n for Zn (forget). */
 enum {
     TRC_S_SNAPSHOT_MODE = 101, TRC_S_NOT_SNAPSHOT_MODE = 102, TRC_S_NEVER_STARTED = 103, TRC_S_ROTATION_PENDING = 104,
     TRC_S_ALREADY_ROTATED = 105, TRC_S_ALREADY_ACTIVE = 106, TRC_S_NOT_ACTIVE = 107, TRC_S_NO_STREAM = 108,
@@ -64,7 +64,8 @@ enum {
     TRC_G_BAD_SIZE = 901, TRC_G_BAD_COUNT = 902,
     TRC_V_BAD_EVENT = 1001, TRC_V_BAD_FIELD = 1002, TRC_V_BAD_TYPE = 1003, TRC_V_NOT_ALONE = 1004, TRC_V_FIELD_TWICE = 1005,
     TRC_V_EVENT_TAKEN = 1006, TRC_V_TOO_MANY = 1007, TRC_V_BAD_VARIABLE = 1008, TRC_V_BAD_VALUE = 1009,
-    TRC_V_VARIABLE_TAKEN = 1010, TRC_V_TOO_MANY_VARIABLES = 1011
+    TRC_V_VARIABLE_TAKEN = 1010, TRC_V_TOO_MANY_VARIABLES = 1011,
+    TRC_Z_NO_PART = 1201, TRC_Z_HELD = 1202
 };
 
 enum { TRC_DISCARD = 0, TRC_OVERWRITE = 1 };          /* modes of a channel */
@@ -103,6 +104,9 @@ uint32_t trc_stream_cut(trc_stream *, uint64_t moment, trc_cut *);
 uint32_t trc_stream_clear(trc_stream *, trc_cleared *);
 /* Gives up the packets of a closed part. CLOSED, Y1, Y2, NO_MEMORY. In a session use trc_book_release. */
 uint32_t trc_stream_release(trc_stream *, uint64_t chunk, trc_released *);
+/* Forgets the closed parts below this chunk, all of which were released: fates of what was offered before it began are
+ * forgotten, and counts stay. CLOSED, Z1, Z2, NO_MEMORY. */
+uint32_t trc_stream_forget(trc_stream *, uint64_t chunk);
 /* How many records were offered, and where they are. CLOSED. */
 uint32_t trc_stream_counts(trc_stream *, trc_counts *);
 /* Adds the stream's counts to sums; what is more than the greatest uint64_t is that. CLOSED. */

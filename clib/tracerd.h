@@ -23,12 +23,14 @@
  * process. It starts a thread only where tracerd_drainer_start or tracerd_listen asks for one, or tracerd_keeper_start for two.
  *
  * Waits. An offer waits only while another call holds its own stream, at a time for:
- * - a drain, also the drainer's: one step, whatever the sub-buffer's size; but a copy of it if less than a quarter of it is used;
+ * - a drain, also the drainer's, and one before a stop and a rotation by tracerd_record_refused: one step, whatever the
+ *   sub-buffer's size; but a copy of it if less than a quarter of it is used;
  * - a rotation, also a tick's: one step for each sub-buffer with records; and such a copy of the one that is being filled;
  * - a write: a copy of 16 KiB;
  * - a snapshot: a copy of 16 KiB, again and again; then one step for each sub-buffer, and a copy of what was offered since. Only
  *   where offers fill the ring faster than it is copied that may be as much as the ring holds;
  * - a clear or a release: one step for each packet that is removed, and for each record of those with a loss before their end;
+ * - a forget: one step for each archive that is forgotten, and each one that is there;
  * - a fate: a search of packets, and one step for each record of at most one of them;
  * - any other call, also an offer of another thread that shares the producer: one step.
  * While it waits, the thread that holds the stream has its priority, if that is higher.
@@ -72,7 +74,7 @@ typedef struct tracerd_session tracerd_session; /* a session */
 typedef struct tracerd_producer { uint32_t active; } tracerd_producer;
 
 /* What a call answers. From 101 on these are the numbers of the product's own codes: 101 is S1, 201 O1, 701 D1, 801 A1,
- * 1001 V1. */
+ * 1001 V1, 1201 Z1. */
 typedef enum tracerd_status {
     TRACERD_OK = 0,
     TRACERD_NO_MEMORY = 1,           /* an allocation failed, or a thread could not be made */
@@ -88,6 +90,7 @@ typedef enum tracerd_status {
     TRACERD_NOT_DRAINING = 24,       /* it does not run */
     TRACERD_EXISTS = 25,             /* something else has the archive's name, or the socket's */
     TRACERD_LISTENING = 26,          /* the session has a listener */
+    TRACERD_FORGOTTEN = 27,          /* the archive is forgotten */
     TRACERD_SNAPSHOT_MODE = 101,     /* not in a snapshot session */
     TRACERD_NOT_SNAPSHOT_MODE = 102, /* only in a snapshot session */
     TRACERD_NEVER_STARTED = 103,     /* the session was never started */
@@ -124,7 +127,8 @@ typedef enum tracerd_status {
     TRACERD_BAD_VARIABLE = 1008,     /* of a variable: no name, or a word of CTF's language */
     TRACERD_BAD_VALUE = 1009,        /* no value, one that can't stand in the metadata, or a vpid that is no number */
     TRACERD_VARIABLE_TAKEN = 1010,   /* a variable has this name */
-    TRACERD_TOO_MANY_VARIABLES = 1011 /* more than 32 */
+    TRACERD_TOO_MANY_VARIABLES = 1011, /* more than 32 */
+    TRACERD_HELD = 1202              /* an archive below this number isn't released */
 } tracerd_status;
 
 /* The version of the library that is called, as "0.9.0": that of a shared object may be later than the header's. */
@@ -199,6 +203,24 @@ tracerd_status tracerd_producer_done(tracerd_producer *);
 TRACERD_API TRACERD_CHECKED TRACERD_POINTER(1) TRACERD_POINTER(2)
 tracerd_status tracerd_declare(tracerd_session *, const char *text, uint64_t *line);
 
+/* Has the session record what it refuses, so that who reads its archives sees that: in each producer's stream offers_refused has
+ * how many of its offers were refused until then, by why, as tracerd_counts_of counts them. So the last one has the sums, and many
+ * refusals in turn have one record.
+ *
+ * It is offered by the library itself: before the next offer that is accepted, before thread_end, and before a rotation, a stop and
+ * a snapshot; of what is refused while the session is off, that is after the next start. Its moment is that of the last refused
+ * offer that had one, or of a start after that, but not later than the offer's that it comes before. What it overwrites is counted,
+ * and no offer's answer. If the ring is full it is discarded, and counted so; then it is offered again once another one is stored,
+ * and before a rotation or a stop, where a closed sub-buffer is drained for it first. If it was overwritten or cleared, it is
+ * offered again before the next rotation, stop and snapshot.
+ *
+ * The session declares this event beside what its program declares, before or after: a program's line with its name or id is
+ * EVENT_TAKEN, and it may declare one event and 93 bytes fewer. Without this call nothing is recorded. ALREADY_STARTED, NO_MEMORY.
+ * EVENT_TAKEN, TOO_MANY_DECLARED: of what the program has declared. */
+#define TRACERD_OFFERS_REFUSED 4294967292u /* offers_refused inactive:u64 too_big:u64 bad_moment:u64 spent:u64 other_layout:u64 */
+TRACERD_API TRACERD_CHECKED TRACERD_POINTERS
+tracerd_status tracerd_record_refused(tracerd_session *);
+
 /* From this moment on offers are taken; the first start begins the first trace chunk. ROTATION_PENDING, ALREADY_ACTIVE. */
 TRACERD_API TRACERD_CHECKED TRACERD_POINTERS
 tracerd_status tracerd_start(tracerd_session *, uint64_t moment);
@@ -230,9 +252,9 @@ TRACERD_API TRACERD_CHECKED TRACERD_POINTER(1)
 tracerd_status tracerd_trace(tracerd_producer *, uint32_t id, const void *payload, size_t size);
 
 /* A tracepoint, TRACERD_TRACE(producer, id, payload, size): while the session is off it costs a load and a branch, and nothing
- * but the producer is evaluated. The payload may be a compound literal. Refusals are lost: where they matter, call
- * tracerd_trace; tracerd_counts has them. Each thread has the producer that it names. Names that begin with tracerd_ are the
- * library's. */
+ * but the producer is evaluated. The payload may be a compound literal. Refusals aren't answered: where they matter, call
+ * tracerd_trace. tracerd_counts has them, and by tracerd_record_refused archives do. Each thread has the producer that it names.
+ * Names that begin with tracerd_ are the library's. */
 #define TRACERD_TRACE(producer, ...)                                                                        \
     do {                                                                                                    \
         tracerd_producer *tracerd_of_tracepoint_ = (producer);                                              \
@@ -304,6 +326,13 @@ tracerd_status tracerd_write(tracerd_session *, uint64_t archive, const char *fo
  * released. */
 TRACERD_API TRACERD_POINTERS
 tracerd_status tracerd_release(tracerd_session *, uint64_t archive);
+/* Forgets the archives below this number, which have to be released: what a released one still takes, 112 bytes a producer and
+ * more for each of its packets, is given up, so that what many of them leave is 24 bytes for each, in all. Counts and sums stay;
+ * of a record that was offered before archive `archive` began the fate is FORGOTTEN, and tracerd_archive_of a forgotten archive
+ * too. What was forgotten before stays so. What a clear leaves, 24 bytes or more for each packet, isn't given up. NO_ARCHIVE. HELD,
+ * NO_MEMORY: some producers' parts may be given up. */
+TRACERD_API TRACERD_POINTERS
+tracerd_status tracerd_forget(tracerd_session *, uint64_t archive);
 /* Writes what the rings of a snapshot session hold, in the form of archive 0 and as tracerd_write does, below a folder that is
  * to be this snapshot's alone: its name has the moment's second. Each stream is shown as it is at one step, while offers go on.
  * NOT_SNAPSHOT_MODE, NEVER_STARTED. EXISTS, READ, WRITE, NO_MEMORY: as of tracerd_write, and the moment is stored. */
@@ -340,7 +369,8 @@ typedef struct tracerd_about {
     uint64_t archives;            /* they have the numbers below this one, also those that were released */
     uint64_t begun, last;         /* when the current chunk began, and the last stored moment; 0 before the first start */
     uint8_t uuid[16];             /* the trace's identifier */
-    uint64_t reserved[7];
+    uint64_t forgotten;           /* archives below this one are forgotten */
+    uint64_t reserved[6];
 } tracerd_about;
 
 /* What a session is now. */
@@ -355,7 +385,7 @@ typedef struct tracerd_archive {
     uint64_t reserved[10];
 } tracerd_archive;
 
-/* What an archive has. NO_ARCHIVE. */
+/* What an archive has. NO_ARCHIVE, FORGOTTEN. */
 TRACERD_API TRACERD_CHECKED TRACERD_POINTERS
 tracerd_status tracerd_archive_of(tracerd_session *, uint64_t archive, tracerd_archive *);
 /* The name of an archive's folder, as tracerd_write gives it, also if it isn't written or was released. NO_ARCHIVE, NO_MEMORY. */
@@ -414,8 +444,8 @@ typedef struct tracerd_keeper tracerd_keeper; /* two threads of the library's ow
 
 /* Starts a keeper. One of its threads drains each 10 milliseconds and rotates by tracerd_schedule(session, every, bytes) and
  * tracerd_tick, at the session's clock. The other one writes each archive, also such as the program rotates, as tracerd_write
- * does, releases it, and then deletes the oldest beyond the last `keep`. TRACERD_NEVER of `every`, `bytes` or `keep` leaves it
- * out.
+ * does, releases it, and then deletes the oldest beyond the last `keep`, and forgets what it deleted, and what is older: so
+ * memory has a bound too. TRACERD_NEVER of `every`, `bytes` or `keep` leaves it out; without `keep` nothing is forgotten.
  *
  * Archives are below a folder of this run's own, FOLDER/SESSION-BEGIN: BEGIN is this moment, in the form of archives' names, and
  * -1, -2 and so on follow if that is there. Only archives of this run are deleted, and of their folders only the archive's own
@@ -438,7 +468,7 @@ const char *tracerd_keeper_folder(const tracerd_keeper *);
 typedef struct tracerd_keeping {
     uint64_t written, deleted; /* archives: how many it has written, and how many of these it has deleted */
     uint64_t waiting;          /* archives in memory */
-    uint64_t refused;          /* how many steps were refused: drains, rotations, writes, releases and deletions */
+    uint64_t refused;          /* how many steps were refused: drains, rotations, writes, releases, deletions and forgets */
     uint64_t moment;           /* of the last of these its moment, by the session's clock; 0 if there is none */
     uint32_t last;             /* its status, which is WRITE if an archive can't be deleted */
     int32_t error;             /* its errno, of WRITE and READ; else 0 */
@@ -498,7 +528,7 @@ tracerd_status tracerd_listener_stop(tracerd_listener *);
  * what is offered by a producer that was given back.
  *
  * `shared` is how many of the offered ones were made while a pool had lent their producer to several threads, which may wait for
- * each other then; what threads say of themselves is among them. If it grows, a larger pool helps. After a thread had a producer
+ * each other then; what threads say of themselves is among them, and offers_refused. If it grows, a larger pool helps. After a thread had a producer
  * that it couldn't keep for want of memory, all offers by that one are shared. Those of tracerd_cpu_pool_new are lent to nobody. */
 typedef struct tracerd_counts {
     uint64_t offered, discarded, overwritten, cleared, in_ring, in_chunks;
@@ -519,14 +549,15 @@ tracerd_status tracerd_settle(tracerd_session *, tracerd_counts *, uint64_t *str
 
 typedef enum tracerd_place {
     TRACERD_NOT_OFFERED = 0, TRACERD_IN_RING = 1, TRACERD_IN_CHUNK = 2,
-    TRACERD_WAS_DISCARDED = 3, TRACERD_WAS_OVERWRITTEN = 4, TRACERD_WAS_CLEARED = 5
+    TRACERD_WAS_DISCARDED = 3, TRACERD_WAS_OVERWRITTEN = 4, TRACERD_WAS_CLEARED = 5,
+    TRACERD_WAS_FORGOTTEN = 6
 } tracerd_place;
 
 /* Where a record is, or how it was lost. */
 typedef struct tracerd_fate {
     uint32_t place;  /* a tracerd_place */
     uint64_t chunk;  /* in a chunk: its number, which is its archive's; else 0 */
-    uint64_t packet; /* its packet, unless it was not offered, discarded or overwritten; else 0 */
+    uint64_t packet; /* its packet, unless it was not offered, discarded, overwritten or forgotten; else 0 */
     uint64_t reserved[5];
 } tracerd_fate;
 TRACERD_API TRACERD_CHECKED TRACERD_POINTERS

@@ -195,6 +195,8 @@ public:
         if (status >= TRACERD_BAD_EVENT) throw undeclared(status, line);
         must(status);
     }
+    // Archives have what was refused, as records `offers_refused` (TRACERD_OFFERS_REFUSED).
+    void record_refused() { must(tracerd_record_refused(get())); }
     uint64_t now() const noexcept { return tracerd_now_of(get()); }
     void start(uint64_t moment) { must(tracerd_start(get(), moment)); }
     void stop() { must(tracerd_stop(get())); }
@@ -218,6 +220,7 @@ public:
         must(tracerd_write(get(), archive, text(folder, TRACERD_WRITE)));
     }
     void release(uint64_t archive) { must(tracerd_release(get(), archive)); }
+    void forget(uint64_t archive) { must(tracerd_forget(get(), archive)); }
     void snapshot(uint64_t moment, const std::string &folder) {
         must(tracerd_snapshot(get(), moment, text(folder, TRACERD_WRITE)));
     }

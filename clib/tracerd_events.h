@@ -58,7 +58,8 @@ static_assert(sizeof(bool) == 1 && sizeof(float) == 4 && sizeof(double) == 8, "f
     }
 
 /* A tracepoint, TRACERD_EVENT(event, producer, values ..): while the session is off it costs a load and a branch, and nothing but
- * the producer is evaluated. Refusals are lost: where they matter, call tracerd_trace_EVENT; tracerd_counts has them. */
+ * the producer is evaluated. Refusals aren't answered: where they matter, call tracerd_trace_EVENT. tracerd_counts has them, and by
+ * tracerd_record_refused archives do. */
 #define TRACERD_EVENT(event, ...)                                                                      \
     do {                                                                                               \
         tracerd_producer *tracerd_of_event_ = (TRACERD_FIRST(__VA_ARGS__, ~));                         \

@@ -10,6 +10,7 @@ tracerd_status tracerd_about_of(tracerd_session *t, tracerd_about *about) {
     trc_about found;
     pthread_mutex_lock(&t->desk);
     tracerd_status status = trc_book_about(&t->book, &found);
+    uint64_t forgotten = t->forgotten;
     pthread_mutex_unlock(&t->desk);
     if (status)
         return status;
@@ -21,7 +22,8 @@ tracerd_status tracerd_about_of(tracerd_session *t, tracerd_about *about) {
                              .producers = found.streams,
                              .archives = found.archives,
                              .begun = found.begin,
-                             .last = found.last};
+                             .last = found.last,
+                             .forgotten = forgotten};
     memcpy(about->uuid, t->uuid, sizeof about->uuid);
     return TRACERD_OK;
 }
@@ -44,6 +46,8 @@ static tracerd_status add_part(slot *s, uint64_t number, tracerd_archive *sums) 
 static tracerd_status ask_archive_locked(tracerd_session *t, uint64_t number, tracerd_archive *found) {
     trc_archive made;
     tracerd_status status = trc_book_archive(&t->book, number, &made);
+    if (!status && number < t->forgotten)
+        return TRACERD_FORGOTTEN;
     for (slot *s = first_slot(t); !status && s; s = next_slot(t, s))
         status = add_part(s, number, found);
     if (status)

@@ -17,7 +17,7 @@ tracerd_status ask_part(slot *s, uint64_t archive, trc_part *part) {
     pthread_mutex_lock(&s->lock);
     tracerd_status status = trc_stream_part(&s->stream, archive, part);
     pthread_mutex_unlock(&s->lock);
-    return status;
+    return status == (tracerd_status)TRC_NO_PART ? TRACERD_FORGOTTEN : status;
 }
 
 /* Adds what a slot's stream counts, what was refused, and what was shared. The slot is locked. */

@@ -27,7 +27,7 @@ static tracerd_status ask_bytes_locked(tracerd_session *t, uint64_t archive) {
         trc_part part;
         tracerd_status status = ask_part(s, archive, &part);
         if (status)
-            return status;
+            return status == TRACERD_FORGOTTEN ? TRACERD_RELEASED : status;
         if (part.released)
             return TRACERD_RELEASED;
     }

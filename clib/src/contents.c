@@ -25,6 +25,7 @@ tracerd_status look(content *c) {
     copy_ahead(s);
     pthread_mutex_lock(&t->desk);
     pthread_mutex_lock(&s->lock);
+    say_all_refused_locked(s);
     tracerd_status status = trc_book_look(&t->book, &s->stream, c->of->moment, &c->snap);
     pthread_mutex_unlock(&s->lock);
     pthread_mutex_unlock(&t->desk);

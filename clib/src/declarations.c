@@ -1,4 +1,7 @@
-/* Declared events. The session has a handle of them and so has each slot, so that an offer asks for no lock but its own. */
+/* Declared events. The session has a handle of them and so has each slot, so that an offer asks for no lock but its own.
+ *
+ * What the library declares of its own comes before the program's text: so of two that have one name or id the program's line is
+ * the bad one. */
 #include "session.h"
 #include <stdio.h>
 #include <stdlib.h>
@@ -7,7 +10,8 @@
 static const char OF_POOLS[] = "thread_begin 4294967293 name:str tid:u32\n"
                                "thread_end 4294967294 tid:u32\n"
                                "thread_shared 4294967295 name:str tid:u32\n";
-enum { LINES_OF_POOLS = 3 };
+static const char OF_REFUSED[] = "offers_refused 4294967292 inactive:u64 too_big:u64 bad_moment:u64 spent:u64 other_layout:u64\n";
+static const uint64_t LINES_OF_POOLS = 3, LINES_OF_REFUSED = 1;
 
 void free_events(trc_events *events) {
     if (events)
@@ -41,23 +45,25 @@ static tracerd_status read_events(const char *text, trc_events **events, uint64_
     return status;
 }
 
-/* Those of pools, and after them those of a text: so of two that have one name or id the text's line is the bad one. */
-static tracerd_status read_with_pools(const char *text, trc_events **events, uint64_t *line) {
-    size_t size = strlen(OF_POOLS) + strlen(text) + 1;
-    char *both = malloc(size);
-    if (!both)
+/* The library's own, and after them those of a text. */
+static tracerd_status read_with_own(unsigned own, const char *text, trc_events **events, uint64_t *line) {
+    const char *pools = own & POOLS ? OF_POOLS : "", *refused = own & REFUSED ? OF_REFUSED : "";
+    uint64_t lines = (own & POOLS ? LINES_OF_POOLS : 0) + (own & REFUSED ? LINES_OF_REFUSED : 0);
+    size_t size = strlen(pools) + strlen(refused) + strlen(text) + 1;
+    char *all = malloc(size);
+    if (!all)
         return TRACERD_NO_MEMORY;
-    snprintf(both, size, "%s%s", OF_POOLS, text);
-    tracerd_status status = read_events(both, events, line);
-    free(both);
+    snprintf(all, size, "%s%s%s", pools, refused, text);
+    tracerd_status status = read_events(all, events, line);
+    free(all);
     if (status && status != TRACERD_NO_MEMORY)
-        *line = *line > LINES_OF_POOLS ? *line - LINES_OF_POOLS : 1; /* if all is too long, that is said of line 1 */
+        *line = *line > lines ? *line - lines : 1; /* if all is too long, that is said of line 1 */
     return status;
 }
 
-tracerd_status read_with_pools_locked(tracerd_session *t, trc_events **events) {
+tracerd_status read_with_own_locked(tracerd_session *t, unsigned own, trc_events **events) {
     uint64_t line = 0;
-    return read_with_pools(t->text ? t->text : "", events, &line);
+    return read_with_own(own, t->text ? t->text : "", events, &line);
 }
 
 /* Makes a handle for each slot. The desk is held. */
@@ -106,7 +112,7 @@ tracerd_status declare_locked(tracerd_session *t, trc_events **declared) {
 /* Has the session declare what a text does, and keep a copy of it. The desk is held. */
 static tracerd_status declare_text_locked(tracerd_session *t, const char *text, uint64_t *line) {
     trc_events *events;
-    tracerd_status status = t->has_pool ? read_with_pools(text, &events, line) : read_events(text, &events, line);
+    tracerd_status status = read_with_own(t->own, text, &events, line);
     if (status)
         return status;
     char *copy = malloc(strlen(text) + 1);
@@ -129,5 +135,25 @@ tracerd_status tracerd_declare(tracerd_session *t, const char *text, uint64_t *l
     pthread_mutex_unlock(&t->desk);
     if (bad && line)
         *line = bad;
+    return status;
+}
+
+/* Has the session declare of the library's own also what is asked for. The desk is held. */
+static tracerd_status declare_own_locked(tracerd_session *t, unsigned more) {
+    trc_events *events;
+    tracerd_status status = read_with_own_locked(t, t->own | more, &events);
+    if (status)
+        return status;
+    status = declare_locked(t, &events);
+    free_events(events);
+    if (!status)
+        t->own |= more;
+    return status;
+}
+
+tracerd_status tracerd_record_refused(tracerd_session *t) {
+    pthread_mutex_lock(&t->desk);
+    tracerd_status status = declare_own_locked(t, REFUSED);
+    pthread_mutex_unlock(&t->desk);
     return status;
 }

@@ -50,13 +50,16 @@ static bool has_said(const lend *it) {
     return it->manner == SHARED || (it->manner == OWN && !atomic_load_explicit(&it->slot->unsaid, memory_order_relaxed));
 }
 
-/* Has the calling thread say its end, if its beginning was stored. It has the producer no more then. */
+/* Has the calling thread say its end, if its beginning was stored, and before it what was refused. It has the producer no more
+ * then. */
 static void say_end(const lend *it) {
     slot *s = it->slot;
     uint32_t tid = number_of_thread();
     pthread_mutex_lock(&s->lock);
-    if (has_said(it))
+    if (has_said(it)) {
+        say_refused_locked(s);
         (void)say_locked(s, TRACERD_THREAD_END, (const uint8_t *)&tid, sizeof tid);
+    }
     if (it->manner == OWN)
         atomic_store(&s->unsaid, 0);
     s->holders--;

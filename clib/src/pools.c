@@ -46,7 +46,7 @@ static tracerd_status ask_room_locked(tracerd_pool *p) {
 /* Adds the producers, and has the session declare what threads say. The desk is held. */
 static tracerd_status fill_declared_locked(tracerd_pool *p, const char *channel) {
     trc_events *events;
-    tracerd_status status = read_with_pools_locked(p->session, &events);
+    tracerd_status status = read_with_own_locked(p->session, p->session->own | POOLS, &events);
     if (status)
         return status;
     status = add_producers_locked(p, channel);
@@ -54,7 +54,7 @@ static tracerd_status fill_declared_locked(tracerd_pool *p, const char *channel)
         status = declare_locked(p->session, &events);
     free_events(events);
     if (!status)
-        p->session->has_pool = true;
+        p->session->own |= POOLS;
     return status;
 }
 

@@ -71,29 +71,6 @@ tracerd_status tracerd_producer_done(tracerd_producer *producer) {
 
 /* ---- Offers ---- */
 
-/* Counts an offer that is refused. The slot is locked. */
-static void count_refusal_locked(slot *s, tracerd_status why) {
-    switch (why) {
-    case TRACERD_INACTIVE:
-        s->refused.inactive++;
-        break;
-    case TRACERD_TOO_BIG:
-        s->refused.too_big++;
-        break;
-    case TRACERD_BAD_MOMENT:
-        s->refused.bad_moment++;
-        break;
-    case TRACERD_SPENT:
-        s->refused.spent++;
-        break;
-    case TRACERD_OTHER_LAYOUT:
-        s->refused.other_layout++;
-        break;
-    default: /* it was given back */
-        break;
-    }
-}
-
 /* Whether a payload is laid out as the event of this id is declared. The slot is locked. */
 static tracerd_status judge_layout_locked(slot *s, uint32_t id, const void *payload, size_t size) {
     return s->events ? trc_events_fit(s->events, id, payload, size) : TRACERD_OK;
@@ -109,9 +86,10 @@ tracerd_status tracerd_offer(tracerd_producer *producer, uint64_t moment, uint32
     if (s->is_out)
         status = judge_layout_locked(s, id, payload, size);
     if (!status)
-        status = offer_locked(s, moment, id, payload, size, offered);
+        status = __builtin_expect(s->telling == SAID, 1) ? offer_locked(s, moment, id, payload, size, offered)
+                                                         : offer_told_locked(s, moment, id, payload, size, offered);
     if (__builtin_expect(status != TRACERD_OK, 0))
-        count_refusal_locked(s, status);
+        count_refusal_locked(s, moment, status);
     pthread_mutex_unlock(&s->lock);
     return status;
 }

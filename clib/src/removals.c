@@ -1,4 +1,4 @@
-/* Clears and releases. Packets' memory is freed while no slot is locked. */
+/* Clears, releases and forgets. Packets' memory is freed while no slot is locked. */
 #include "session.h"
 #include "archives.h"
 
@@ -62,6 +62,29 @@ tracerd_status tracerd_release(tracerd_session *t, uint64_t archive) {
         wait_for_writers_locked(t, archive);
         status = release_locked(t, archive);
     }
+    pthread_mutex_unlock(&t->desk);
+    return status;
+}
+
+/* The desk is held. Each stream asks whether it has released all of them. */
+static tracerd_status forget_locked(tracerd_session *t, uint64_t archive) {
+    trc_about about;
+    tracerd_status status = trc_book_about(&t->book, &about);
+    if (!status && archive > about.archives)
+        return TRACERD_NO_ARCHIVE;
+    for (slot *s = first_slot(t); !status && s; s = next_slot(t, s)) {
+        pthread_mutex_lock(&s->lock);
+        status = trc_stream_forget(&s->stream, archive);
+        pthread_mutex_unlock(&s->lock);
+    }
+    if (!status && archive > t->forgotten)
+        t->forgotten = archive;
+    return status;
+}
+
+tracerd_status tracerd_forget(tracerd_session *t, uint64_t archive) {
+    pthread_mutex_lock(&t->desk);
+    tracerd_status status = forget_locked(t, archive);
     pthread_mutex_unlock(&t->desk);
     return status;
 }

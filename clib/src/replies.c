@@ -143,11 +143,12 @@ static void say_archive_locked(text *a, tracerd_session *t, uint64_t archive) {
 void say_archives(text *a, tracerd_session *t) {
     tracerd_about about = {0};
     a->is_lost |= tracerd_about_of(t, &about) != TRACERD_OK;
-    if (!about.archives)
+    if (about.archives == about.forgotten)
         say(a, TRC_SAYS_NO_ARCHIVES);
-    for (uint64_t k = 0; k < about.archives && has_room(a); k++) {
+    for (uint64_t k = about.forgotten; k < about.archives && has_room(a); k++) {
         pthread_mutex_lock(&t->desk);
-        say_archive_locked(a, t, k);
+        if (k >= t->forgotten)
+            say_archive_locked(a, t, k);
         pthread_mutex_unlock(&t->desk);
     }
 }

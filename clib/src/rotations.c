@@ -7,6 +7,7 @@ static tracerd_status cut_locked(tracerd_session *t, slot *s) {
     stock_up(s, CUT);
     warm(s);
     pthread_mutex_lock(&s->lock);
+    say_all_refused_locked(s);
     pages_in(s->rings);
     tracerd_status status = trc_rotate_cut(&t->book, &s->stream, &done);
     pages_in(NULL);

@@ -1,4 +1,4 @@
-/* A keeper's rounds: what is recorded becomes archives; these are written and released, and the oldest deleted. */
+/* A keeper's rounds: what is recorded becomes archives; these are written and released, and the oldest deleted and forgotten. */
 #include "keepers.h"
 #include <errno.h>
 
@@ -82,7 +82,9 @@ tracerd_status collect_all(tracerd_keeper *k) {
 
 void pass_over_released(tracerd_keeper *k) {
     tracerd_archive archive;
-    uint64_t number = 0;
+    pthread_mutex_lock(&k->session->desk);
+    uint64_t number = k->session->forgotten;
+    pthread_mutex_unlock(&k->session->desk);
     while (!tracerd_archive_of(k->session, number, &archive) && archive.is_released)
         number++;
     atomic_store(&k->next, number);
@@ -114,7 +116,8 @@ static tracerd_status keep_next(tracerd_keeper *k, uint64_t number) {
     return TRACERD_OK;
 }
 
-/* Deletes the oldest that wasn't deleted. One of which only another's files are left is as good as gone. */
+/* Deletes the oldest that wasn't deleted, and forgets it. One of which only another's files are left is as good as gone. What
+ * can't be forgotten is forgotten with the next one. */
 static tracerd_status delete_next(tracerd_keeper *k) {
     bool was_there;
     tracerd_status status = noted(k, delete_archive(k->session, k->deleted, k->folder, &was_there));
@@ -123,7 +126,7 @@ static tracerd_status delete_next(tracerd_keeper *k) {
     k->deleted++;
     if (was_there)
         count(k, &k->accounts.deleted);
-    return TRACERD_OK;
+    return noted(k, tracerd_forget(k->session, k->deleted));
 }
 
 /* Deletes what is older than the last that are kept, of those that aren't in memory any more. */

@@ -17,6 +17,9 @@ enum { APART = 128, SECOND = 1000000000 };
 enum { PIECE = 16384 }; /* the most bytes that are copied while a stream is held once */
 enum { SUB_BUFFERS = 64 };
 enum { OFF, ON, BUSY, KEEPING }; /* the drainer; KEEPING: it is a keeper's */
+enum { POOLS = 1, REFUSED = 2 }; /* what the library declares beside the program: events of pools, and offers_refused */
+/* What a stream has to say of refused offers: nothing; before the next record; or after it, since there was no room before. */
+enum telling { SAID, DUE, HELD };
 
 /* A producer and its stream, in memory that no other slot's thread touches, and that a child of fork finds as zeros: closed,
  * unlocked, and off. */
@@ -26,13 +29,17 @@ typedef struct slot {
     trc_stream stream;
     struct {
         uint64_t inactive, too_big, bad_moment, spent, other_layout;
-    } refused;          /* offers, by why */
+    } refused;          /* offers, by why: the payload of offers_refused */
     uint64_t holders;   /* threads to which a pool has lent it */
     uint64_t shared;    /* offers that were accepted while these were several */
     bool is_out;        /* not given back */
+    uint8_t telling;    /* a telling; SAID if offers_refused isn't declared */
+    bool is_told;       /* it is declared: from the first start on */
     trc_events *events; /* those that are declared, or NULL */
     trc_events *coming; /* while events are declared: those that it will have; the desk guards it */
     uint64_t number;
+    uint64_t refused_at;         /* the moment of the last refused offer, or of a start if that is later */
+    uint64_t lost;               /* how many records were overwritten or cleared when it last said what was refused */
     uint64_t ahead;              /* the session's; it never changes */
     struct rings *rings;         /* the session's too */
     uint8_t first[ABOUT_THREAD]; /* of a pool: what the thread that it is lent to says first */
@@ -46,14 +53,15 @@ struct tracerd_session {
     tracerd_kind kind;
     uint8_t uuid[16];
     uint64_t ahead;       /* by how much the wall clock was ahead of CLOCK_MONOTONIC when the session was made */
-    pthread_mutex_t desk; /* guards the book, additions of slots, and `writings` */
+    pthread_mutex_t desk; /* guards the book, additions of slots, `forgotten`, and `writings` */
     trc_book book;
     trc_events *events;               /* those that are declared, or NULL; the desk guards it, and what follows */
     char *text;                       /* the program's declarations, or NULL */
-    bool has_pool;                    /* events of pools are declared with them */
+    unsigned own;                     /* POOLS, REFUSED: what is declared with them */
     struct tracerd_pool *pools;       /* those that lend its producers */
     struct rings *rings;              /* the file in which its rings lie, or NULL; it is there before the first slot */
     slot *_Atomic slots[STREAMS + 1]; /* NULL after the last; read without the desk */
+    uint64_t forgotten;               /* archives below this one are */
     struct writing *writings;         /* the calls that write files now */
     pthread_cond_t has_written;       /* one of them has ended */
     _Atomic int drainer;              /* if BUSY what follows is the thread's that starts or stops it */
@@ -75,7 +83,8 @@ static inline slot *next_slot(tracerd_session *t, const slot *s) { return atomic
 static inline tracerd_status offer_locked(slot *s, uint64_t moment, uint32_t id, const void *payload, size_t size,
                                           tracerd_offered *offered) {
     tracerd_status status = trc_stream_offer(&s->stream, moment, id, payload, size, offered);
-    s->shared += !status && s->holders > 1;
+    if (__builtin_expect(s->holders > 1, 0) && !status)
+        s->shared++;
     return status;
 }
 
@@ -105,7 +114,7 @@ void free_slot(slot *s);
 
 /* ---- What a stream has (accounts.c) ---- */
 
-/* What a slot's stream counts, and what it has of an archive. */
+/* What a slot's stream counts, and what it has of an archive that there is; FORGOTTEN, also if not all streams forgot it. */
 tracerd_status ask_counts(slot *s, trc_counts *counts);
 tracerd_status ask_part(slot *s, uint64_t archive, trc_part *part);
 
@@ -115,10 +124,25 @@ tracerd_status ask_part(slot *s, uint64_t archive, trc_part *part);
 tracerd_status share_events(trc_events *events, trc_events **more);
 /* Frees a handle, or NULL. */
 void free_events(trc_events *events);
-/* Those of pools, and what the program declares. The desk is held. */
-tracerd_status read_with_pools_locked(tracerd_session *t, trc_events **events);
+/* What the program declares, and of the library's own (POOLS, REFUSED) before it. The desk is held. */
+tracerd_status read_with_own_locked(tracerd_session *t, unsigned own, trc_events **events);
 /* Has the session declare these events in place of *declared, and its slots with it; or nothing changes. The desk is held. */
 tracerd_status declare_locked(tracerd_session *t, trc_events **declared);
+
+/* ---- What was refused (refusals.c) ---- */
+
+/* Counts an offer that is refused. The slot is locked. */
+void count_refusal_locked(slot *s, uint64_t moment, tracerd_status why);
+/* From this start on a slot's stream says what was refused, also before, if the session has it so. The slot is locked. */
+void begin_telling_locked(slot *s, bool is_told, uint64_t moment);
+/* Offers a record of a stream that isn't SAID: offers_refused comes before it, if both are accepted. The slot is locked. */
+tracerd_status offer_told_locked(slot *s, uint64_t moment, uint32_t id, const void *payload, size_t size,
+                                 tracerd_offered *offered);
+/* Offers offers_refused if it is due: before the end of a thread. The slot is locked. */
+void say_refused_locked(slot *s);
+/* Offers it before nothing may come for long, a cut, a stop or a look, also if what was said was overwritten or cleared. So that
+ * it isn't discarded a closed sub-buffer is taken first. The slot is locked, and stocked for a take. */
+void say_all_refused_locked(slot *s);
 
 /* ---- What files have (contents.c) ---- */
 

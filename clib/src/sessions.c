@@ -88,14 +88,26 @@ tracerd_status tracerd_rings_in(tracerd_session *t, const char *path) {
     return status;
 }
 
-/* Switches each stream as the book allows. The desk is held. */
-static tracerd_status switch_all_locked(tracerd_session *t, bool is_active) {
+/* Switches a stream as the book allows: at this moment on, or off. The desk and the slot are locked. */
+static tracerd_status switch_locked(tracerd_session *t, slot *s, bool is_active, uint64_t moment) {
+    if (!is_active)
+        say_all_refused_locked(s);
+    tracerd_status status = trc_book_switch(&t->book, &s->stream, is_active);
+    if (!status)
+        set_active_locked(s, is_active);
+    say_first_locked(s);
+    if (is_active)
+        begin_telling_locked(s, t->own & REFUSED, moment);
+    return status;
+}
+
+/* Switches each stream so. The desk is held. */
+static tracerd_status switch_all_locked(tracerd_session *t, bool is_active, uint64_t moment) {
     for (slot *s = first_slot(t); s; s = next_slot(t, s)) {
+        if (!is_active && t->own & REFUSED)
+            (void)stock(s, TAKE);
         pthread_mutex_lock(&s->lock);
-        tracerd_status status = trc_book_switch(&t->book, &s->stream, is_active);
-        if (!status)
-            set_active_locked(s, is_active);
-        say_first_locked(s);
+        tracerd_status status = switch_locked(t, s, is_active, moment);
         pthread_mutex_unlock(&s->lock);
         if (status)
             return status;
@@ -122,7 +134,7 @@ tracerd_status tracerd_start(tracerd_session *t, uint64_t moment) {
     if (!status)
         status = trc_book_start(&t->book, moment);
     if (!status)
-        status = switch_all_locked(t, true);
+        status = switch_all_locked(t, true, moment);
     pthread_mutex_unlock(&t->desk);
     return status;
 }
@@ -131,7 +143,7 @@ tracerd_status tracerd_stop(tracerd_session *t) {
     pthread_mutex_lock(&t->desk);
     tracerd_status status = trc_book_stop(&t->book);
     if (!status)
-        status = switch_all_locked(t, false);
+        status = switch_all_locked(t, false, 0);
     pthread_mutex_unlock(&t->desk);
     return status;
 }

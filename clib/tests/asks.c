@@ -49,6 +49,11 @@ static void answers_of_a_local_session(void) {
     refuses("release s 1", "refused S18 NoArchive\n");
     refuses("release s now", "bad line\n");
     says("archives s", "0 " FIRST " packets 2 bytes 484 released\n");
+    answers(OK, tracerd_forget(session, 1));
+    says("archives s", "none\n");
+    says("fate s 0 3", "forgotten\n");
+    says("fate s 0 6", "cleared 2\n");
+    refuses("release s 0", "refused S19 Released\n");
     says("schedule s --every 5 --size=7", "schedule set\n");
     says("schedule s", "schedule off\n");
     says("schedule s --every 18446744073709551615", "schedule set\n");

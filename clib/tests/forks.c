@@ -44,6 +44,7 @@ static void finds_all_closed(tracerd_session *s, tracerd_producer *p) {
     answers(CLOSED, tracerd_channel(s, "d", 256, 2, TRACERD_OVERWRITE));
     answers(CLOSED, tracerd_producer_new(s, "c", &other));
     answers(CLOSED, tracerd_declare(s, "event 1", &n));
+    answers(CLOSED, tracerd_record_refused(s));
     answers(CLOSED, tracerd_start(s, 0));
     answers(CLOSED, tracerd_stop(s));
     answers(CLOSED, tracerd_drain(s, &n));
@@ -56,6 +57,7 @@ static void finds_all_closed(tracerd_session *s, tracerd_producer *p) {
     answers(CLOSED, tracerd_clear(s, &n));
     answers(CLOSED, tracerd_write(s, 0, dir));
     answers(CLOSED, tracerd_release(s, 0));
+    answers(CLOSED, tracerd_forget(s, 0));
     answers(CLOSED, tracerd_snapshot(s, 0, dir));
     answers(CLOSED, tracerd_producer_done(p));
     is(o.serial == 99 && c.offered == 99 && f.place == 99 && cause == TRACERD_SIZE && n == 99 && !other);

@@ -23,6 +23,7 @@ static void keeps_the_last(void) {
     is(archives > 6 && names_below(archives_folder()) == 2);
     is(is_there(archives - 1) && is_there(archives - 2) && !is_there(archives - 3));
     is(is_released(archives - 1));
+    is(how_many_are_forgotten() == archives - 2);
     tracerd_free(session);
 }
 

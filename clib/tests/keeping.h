@@ -57,6 +57,12 @@ static inline uint64_t records_below(const char *folder) {
     return count;
 }
 
+static inline uint64_t how_many_are_forgotten(void) {
+    tracerd_about about = {0};
+    answers(OK, tracerd_about_of(session, &about));
+    return about.forgotten;
+}
+
 static inline const char *name_of(uint64_t archive) {
     static char name[TRACERD_ARCHIVE_NAME];
     answers(OK, tracerd_archive_name(session, archive, name));

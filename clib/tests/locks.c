@@ -65,7 +65,9 @@ static void ask_of_planned(void) {
 }
 
 static void declare(void) {
-    if (times(me) < EACH_TURN) MUST(tracerd_declare(planned, "event 7 field:u8", NULL));
+    if (times(me) >= EACH_TURN) return;
+    MUST(tracerd_declare(planned, "event 7 field:u8", NULL));
+    MUST(tracerd_record_refused(planned));
 }
 
 static void lend(void) {
@@ -160,11 +162,14 @@ static void write_and_release(void) {
     MAY(OK, RELEASED, tracerd_release(local, about.archives - 1));
 }
 
+/* (The first is never released.) */
+static void forget(void) { MAY(HELD, HELD, tracerd_forget(local, tracerd_forget(local, 0) ? 0 : 1)); }
+
 /* ---- What is shown ---- */
 
 static void offer_shown(void) {
     tracerd_offered o;
-    MUST(tracerd_offer(looked_at[me], 0, 1, "a record of some bytes", 22, &o));
+    MAY(OK, TOO_BIG, tracerd_offer(looked_at[me], 0, 1, "a record of some bytes", times(me) % 4 ? 22 : SIZE_MAX, &o));
 }
 
 static void show(void) {
@@ -211,8 +216,8 @@ typedef void step(void);
 static step *const plans[] = {add_channel,    add_producer,     give_back, settle, count_planned, offer_too_early,
                               ask_of_planned, schedule_planned, declare,   lend,   NULL};
 static step *const records[] = {
-    offer, trace, start,    stop,      drain,       run_drainer, rotate,      rotate_on,         tick,
-    clear, count, ask_fate, ask_about, ask_archive, ask_name,    write_first, write_and_release, NULL};
+    offer,    trace,     start,       stop,     drain,       run_drainer,       rotate, rotate_on, tick, clear, count,
+    ask_fate, ask_about, ask_archive, ask_name, write_first, write_and_release, forget, NULL};
 static step *const shows[] = {offer_shown, show, ask_of_shown, NULL};
 static step *const keeps[] = {keep, offer_kept, rotate_kept, ask_of_kept, NULL};
 
@@ -259,6 +264,7 @@ static tracerd_session *opened(const char *name, tracerd_kind kind, tracerd_prod
     MUST(tracerd_new(&s, name, ONE, 0, kind));
     MUST(tracerd_channel(s, "c", 256, 4, TRACERD_OVERWRITE));
     for (int i = 0; i < 2; i++) MUST(tracerd_producer_new(s, "c", &of_threads[i]));
+    MUST(tracerd_record_refused(s));
     return s;
 }
 
@@ -287,11 +293,8 @@ int main(int count_of_words, char **words) {
     try_pair(NULL, NULL);
     pthread_join(thread, NULL);
     is(given_back > 10 && given_back < ENDED);
-    tracerd_free(planned);
-    tracerd_free(ended);
-    tracerd_free(local);
-    tracerd_free(shown);
-    tracerd_free(kept);
+    tracerd_session *const all[] = {planned, ended, local, shown, kept};
+    for (int i = 0; i < 5; i++) tracerd_free(all[i]);
     counts_as_one();
     return closing();
 }

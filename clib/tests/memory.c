@@ -104,6 +104,7 @@ static void records(const char *dir) {
     for (uint64_t k = 0; k < 8; k++) answers(OK, tracerd_offer(k & 1 ? p : q, k, 1, "abc", 3, &o));
     meets_the_pending(s, q);
     goes_without(ALL, tracerd_release(s, 0));
+    goes(tracerd_forget(s, 1));
     for (uint64_t k = 0; k < 8; k++) answers(OK, tracerd_offer(q, k, 1, "abc", 3, &o));
     goes_without(ALL, tracerd_clear(s, &n));
     answers(OK, tracerd_schedule(s, 1, TRACERD_NEVER));
@@ -158,6 +159,30 @@ static void lends(const char *dir) {
     answers(OK, tracerd_pool_free(p));
     answers(OK, tracerd_counts_sum(s, &c));
     is(c.offered == 3); /* with what the thread said first and last */
+    tracerd_free(s);
+}
+
+/* What is refused is recorded without memory too, at the latest when there is some: nothing else is lost by it. */
+static void tells(const char *dir) {
+    tracerd_session *s;
+    tracerd_producer *p;
+    tracerd_offered o;
+    tracerd_counts c;
+    char full[152] = "abc";
+    (void)dir;
+    goes(tracerd_new(&s, "a", ONE, 0, TRACERD_LOCAL));
+    goes(tracerd_channel(s, "c", 256, 2, TRACERD_DISCARD));
+    goes_without(BLOCK, tracerd_record_refused(s));
+    goes(tracerd_producer_new(s, "c", &p));
+    answers(OK, tracerd_start(s, 0));
+    for (uint64_t k = 0; k < 2; k++) {
+        for (int i = 0; i < 2; i++) answers(OK, tracerd_offer(p, k, 1, full, sizeof full, &o));
+        answers(TOO_BIG, tracerd_offer(p, k, 1, full, SIZE_MAX, &o));
+        if (!k) rotates(s, 9);
+    }
+    goes_without(ALL, tracerd_stop(s));
+    answers(OK, tracerd_counts_sum(s, &c));
+    is(c.offered - c.discarded - c.cleared == c.in_ring + c.in_chunks && c.offered - c.discarded >= 4 && c.refused_too_big == 2);
     tracerd_free(s);
 }
 
@@ -245,7 +270,8 @@ int main(int count, char **words) {
     keeps_with_threads(words[1]);
     counts_as_one();
     for (int lasting = 0; lasting < 2; lasting++) {
-        for (void (*const *run)(const char *) = (void (*const[])(const char *)){records, shows, lends, NULL}; *run; run++) {
+        for (void (*const *run)(const char *) = (void (*const[])(const char *)){records, shows, lends, tells, NULL}; *run;
+             run++) {
             do {
                 asked = refused = shrunk = 0;
                 fails_at++;

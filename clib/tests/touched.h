@@ -25,6 +25,7 @@ static inline void touch(void *handle) {
 #define trc_stream_counts(...) ONE(trc_stream_counts, __VA_ARGS__)
 #define trc_stream_add_counts(...) ONE(trc_stream_add_counts, __VA_ARGS__)
 #define trc_stream_fate(...) ONE(trc_stream_fate, __VA_ARGS__)
+#define trc_stream_forget(...) ONE(trc_stream_forget, __VA_ARGS__)
 #define trc_stream_part(...) ONE(trc_stream_part, __VA_ARGS__)
 #define trc_stream_text(...) ONE(trc_stream_text, __VA_ARGS__)
 #define trc_stream_lacking_for_take(...) ONE(trc_stream_lacking_for_take, __VA_ARGS__)

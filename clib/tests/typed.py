@@ -100,6 +100,22 @@ def offers_what_it_packs():
     assert payloads(session) == [b"\1\2\0", b"hello", b"\3\4\0", b"any"]
 
 
+def records_what_is_refused():
+    """What was refused comes before what is accepted next: five sums, of which the last one is of other layouts."""
+    session = tracerd.Session("app", UUID)
+    session.channel("main", 4096, 2, tracerd.DISCARD)
+    session.declare("offers_refused 1")
+    assert raised(session.record_refused).status is Status.EVENT_TAKEN
+    session.declare(tracerd.Event("push", 3, worker="u8"))
+    session.record_refused()
+    producer = session.producer("main")
+    session.start(session.now())
+    assert raised(session.record_refused).status is Status.ALREADY_STARTED
+    assert raised(producer.trace, 3, b"ab").status is Status.OTHER_LAYOUT
+    assert producer.trace(3, b"a") and session.counts().offered == 2
+    assert payloads(session) == [struct.pack("<5Q", 0, 0, 0, 0, 1), b"a"]
+
+
 def packs_nothing_while_off():
     """A value says when it is packed."""
     told = []
@@ -243,6 +259,7 @@ if __name__ == "__main__":
         takes_values_by_their_names,
         refuses_what_has_no_bytes,
         offers_what_it_packs,
+        records_what_is_refused,
         packs_nothing_while_off,
         says_which_line_declares_nothing,
         takes_what_is_logged,

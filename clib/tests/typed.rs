@@ -134,6 +134,24 @@ fn evaluates_nothing_while_off() {
     assert_eq!(records(&session, "tracepoints"), wanted.map(|bytes| (10, bytes.to_vec())));
 }
 
+/// What was refused comes before what is accepted next: five sums, of which the last one is of other layouts.
+#[test]
+fn records_what_is_refused() {
+    let session = Session::new("s", UUID, 0, Kind::Local).unwrap();
+    session.channel("main", 65_536, 2, Mode::Discard).unwrap();
+    session.declare("offers_refused 1").unwrap();
+    assert_eq!(session.record_refused(), Err(Refused::EventTaken(0)));
+    session.declare(DECLARATIONS).unwrap();
+    session.record_refused().unwrap();
+    let mut it = session.producer("main").unwrap();
+    session.start(0).unwrap();
+    assert_eq!(session.record_refused(), Err(Refused::AlreadyStarted));
+    assert_eq!(it.trace(10, &[1, 2]), Err(Refused::OtherLayout));
+    taken(&mut it, 1, 2, 3).unwrap();
+    let sums = [0u64, 0, 0, 0, 1].map(u64::to_le_bytes).concat();
+    assert_eq!(records(&session, "refused"), [(4_294_967_292, sums), (10, vec![1, 2, 3])]);
+}
+
 #[test]
 fn refuses_another_layout() {
     let (session, mut it) = declared();

@@ -41,6 +41,8 @@ static void records(const std::string &folder) {
     is(session.about().archives == 1 && session.archive(archive).records == 404 && !session.archive(archive).is_released);
     session.release(archive);
     is(session.archive(archive).is_released);
+    session.forget(archive + 1);
+    is(session.about().forgotten == archive + 1);
     is(session.counts().offered == 404);
 }
 
@@ -153,6 +155,7 @@ static void records_typed_events() {
     int evaluated = 0;
     uint64_t line = 0;
     session.declare(tracerd_declarations);
+    session.record_refused();
     TRACERD_EVENT(queue_push, producer.get(), 1, (evaluated++, item.c_str()));
     session.start(0);
     TRACERD_EVENT(queue_push, producer.get(), 1, (evaluated++, item.c_str()));
@@ -171,8 +174,11 @@ static void records_typed_events() {
     is(line == 2);
     answers(BAD_EVENT, refusal([&] { other.declare(std::string("first 1\0", 8)); }));
     answers(ALREADY_STARTED, refusal([&] { session.declare(tracerd_declarations); }));
+    other.declare("offers_refused 1");
+    answers(EVENT_TAKEN, refusal([&] { other.record_refused(); }));
     session.stop();
     is(!producer.trace(tracerd_trace_queue_closed) && producer.counts().refused_inactive == 0);
+    is(producer.counts().offered == 4 && producer.counts().refused_too_big == 1); // with what it was refused until the stop
 }
 
 // Each stream's file has what its thread recorded. After it come 80 bytes that begin no packet (P2): a fault in that place.

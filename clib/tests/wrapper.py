@@ -176,6 +176,20 @@ def tells_errno():
     assert not isinstance(raised(session.write, 1, BELOW_A_FILE), OSError)
 
 
+def forgets():
+    session = planned()
+    producer = session.producer("main")
+    session.start(0)
+    producer.offer(1, 7, b"a")
+    assert session.rotate(2) == 0
+    assert raised(session.forget, 1).status is Status.HELD
+    session.release(0)
+    assert producer.fate(0).place == tracerd.IN_CHUNK
+    session.forget(1)
+    assert producer.fate(0).place == tracerd.WAS_FORGOTTEN and session.about().forgotten == 1
+    assert raised(session.archive, 0).status is Status.FORGOTTEN
+
+
 def has_rings_in_a_file():
     with tempfile.TemporaryDirectory() as folder:
         file = os.path.join(folder, "rings")
@@ -397,6 +411,7 @@ if __name__ == "__main__":
         has_each_status_by_name,
         takes_the_status_of_a_later_library,
         tells_errno,
+        forgets,
         has_rings_in_a_file,
         keeps_what_it_says_when_it_is_sent,
         tells_where_a_fault_is,

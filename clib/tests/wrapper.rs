@@ -1,6 +1,6 @@
 //! The crate `clib/rust`: what it says of refusals, tracepoints, and what is shown of its types. `cargo test` runs it.
 use crate::refused::{Fault, Refused};
-use crate::{audit, trace, Audited, Kind, Mode, Offered, Producer, Session};
+use crate::{audit, trace, Audited, Fate, Kind, Mode, Offered, Producer, Session};
 use std::error::Error;
 use std::fs;
 use std::io::{self, ErrorKind, Read, Write};
@@ -50,11 +50,11 @@ fn statuses() -> Vec<(String, u32)> {
 #[test]
 fn has_each_status_by_name() {
     let all = statuses();
-    assert_eq!((all[0].clone(), all[all.len() - 1].clone()), (("Ok".into(), 0), ("TooManyVariables".into(), 1011)));
+    assert_eq!((all[0].clone(), all[all.len() - 1].clone()), (("Ok".into(), 0), ("Held".into(), 1202)));
     for (name, status) in &all[1..] {
         let why = match *status {
             crate::refused::MISSING => Refused::Missing(0),
-            1001.. => Refused::from_line(*status, 1),
+            1001..=1011 => Refused::from_line(*status, 1),
             status => Refused::from_audit(status, &Audited::default()),
         };
         let variant = format!("{why:?}");
@@ -82,6 +82,19 @@ fn takes_the_status_of_a_later_library() {
         assert!(matches!(why, Refused::Other(it) if it == status));
         assert_eq!((why.status(), why.name(), why.to_string()), (status, "Unknown", format!("Unknown: status {status}")));
     }
+}
+
+#[test]
+fn forgets() {
+    let (session, producer) = planned();
+    session.start(0).unwrap();
+    producer.offer(1, 7, b"a").unwrap();
+    assert_eq!((session.rotate(2), session.forget(1)), (Ok(0), Err(Refused::Held)));
+    session.release(0).unwrap();
+    assert_eq!(producer.fate(0), Ok(Fate::InChunk { chunk: 0, packet: 0 }));
+    session.forget(1).unwrap();
+    assert_eq!((producer.fate(0), session.archive(0)), (Ok(Fate::Forgotten), Err(Refused::Forgotten)));
+    assert_eq!(session.about().unwrap().forgotten, 1);
 }
 
 /// Of an empty folder the header says ENOENT; of one below a file POSIX says ENOTDIR.

@@ -25,9 +25,9 @@ __version__ = "0.9.0"
 from ._library import (
     About, Archive, Audited, Counts, Fate, Offered, Status,
     _about_of, _archive_of, _audit, _channel, _clear, _counts_of, _counts_sum, _declare, _drain, _drainer_start, _drainer_stop,
-    _fate_of, _free, _listen, _listener_stop, _new, _now, _now_of, _offer, _passed, _producer_done, _producer_new,
-    _producer_number, _release, _rings_in, _rotate, _rotate_on, _schedule, _settle, _snapshot, _start, _status_name, _stop, _tick,
-    _trace, _write, version,
+    _fate_of, _forget, _free, _listen, _listener_stop, _new, _now, _now_of, _offer, _passed, _producer_done, _producer_new,
+    _producer_number, _record_refused, _release, _rings_in, _rotate, _rotate_on, _schedule, _settle, _snapshot, _start,
+    _status_name, _stop, _tick, _trace, _write, version,
 )
 
 from ._events import Event
@@ -40,14 +40,14 @@ __all__ = ["Session", "Producer", "Listener", "Event", "Handler", "audit", "now"
 __all__ += ["Offered", "Fate", "Counts", "About", "Archive", "Audited"]
 __all__ += ["LOCAL", "SNAPSHOT", "DISCARD", "OVERWRITE", "STORED", "STORED_OVER", "DISCARDED", "IDLE", "TIMER", "SIZE", "NEVER"]
 __all__ += ["NEW", "ACTIVE", "STOPPED"]
-__all__ += ["NOT_OFFERED", "IN_RING", "IN_CHUNK", "WAS_DISCARDED", "WAS_OVERWRITTEN", "WAS_CLEARED"]
+__all__ += ["NOT_OFFERED", "IN_RING", "IN_CHUNK", "WAS_DISCARDED", "WAS_OVERWRITTEN", "WAS_CLEARED", "WAS_FORGOTTEN"]
 
 LOCAL, SNAPSHOT = 0, 1
 DISCARD, OVERWRITE = 0, 1
 STORED, STORED_OVER, DISCARDED = 0, 1, 2
 IDLE, TIMER, SIZE = 0, 1, 2
 NEW, ACTIVE, STOPPED = 0, 1, 2
-NOT_OFFERED, IN_RING, IN_CHUNK, WAS_DISCARDED, WAS_OVERWRITTEN, WAS_CLEARED = range(6)
+NOT_OFFERED, IN_RING, IN_CHUNK, WAS_DISCARDED, WAS_OVERWRITTEN, WAS_CLEARED, WAS_FORGOTTEN = range(7)
 NEVER = 2**64 - 1
 
 _Written = TypeVar("_Written", bound=ctypes.Structure)
@@ -294,6 +294,11 @@ class Session:
         text, line = "\n".join(map(str, declared)).encode().replace(b"\0", b"\1"), c_uint64()
         _must(_declare(self._handle, text, byref(line)), found=line.value or None)
 
+    def record_refused(self) -> None:
+        """Has archives say what was refused: records `offers_refused`, with the sums of their producer so far by why. Before the
+        start; it declares that event beside the program's."""
+        _must(_record_refused(self._handle))
+
     def now(self) -> int:
         """The moment by the session's clock, which never goes back."""
         moment: int = _now_of(self._handle)
@@ -344,6 +349,11 @@ class Session:
 
     def release(self, archive: int) -> None:
         _must(_release(self._handle, archive))
+
+    def forget(self, archive: int) -> None:
+        """Forgets the archives below this number, which have to be released: what these still take is given up. Counts stay,
+        and fates of what was offered before that archive began are WAS_FORGOTTEN."""
+        _must(_forget(self._handle, archive))
 
     def snapshot(self, moment: int, folder: StrOrBytesPath) -> None:
         _must(_snapshot(self._handle, moment, _path(folder, Status.WRITE)), folder)

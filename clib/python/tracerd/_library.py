@@ -30,6 +30,7 @@ class Status(enum.IntEnum):
     NOT_DRAINING = 24
     EXISTS = 25
     LISTENING = 26
+    FORGOTTEN = 27
     SNAPSHOT_MODE = 101
     NOT_SNAPSHOT_MODE = 102
     NEVER_STARTED = 103
@@ -67,6 +68,7 @@ class Status(enum.IntEnum):
     BAD_VALUE = 1009
     VARIABLE_TAKEN = 1010
     TOO_MANY_VARIABLES = 1011
+    HELD = 1202
 
     @classmethod
     def _missing_(cls, value: object) -> Status | None:
@@ -102,7 +104,7 @@ class Offered(_Struct):
 
 
 class Fate(_Struct):
-    """Where a record is, or how it was lost: `place` is NOT_OFFERED .. WAS_CLEARED."""
+    """Where a record is, or how it was lost: `place` is NOT_OFFERED .. WAS_FORGOTTEN."""
 
     place: int
     chunk: int
@@ -146,10 +148,13 @@ class About(_Struct):
     archives: int
     begun: int
     last: int
+    forgotten: int
     _fields_ = [
         *[(name, c_uint32) for name in ("kind", "state", "is_pending", "is_draining")],
         *_numbers("channels", "producers", "archives", "begun", "last"),
-        ("_reserved", c_uint64 * 9),
+        ("_uuid", c_uint8 * 16),
+        *_numbers("forgotten"),
+        ("_reserved", c_uint64 * 6),
     ]
 
 
@@ -270,6 +275,7 @@ _producer_new = _call("producer_new", c_void_p, c_char_p, POINTER(c_void_p))
 _producer_number = _call("producer_number", c_void_p, result=c_uint64)
 _producer_done = _call("producer_done", c_void_p)
 _declare = _call("declare", c_void_p, c_char_p, _number)
+_record_refused = _call("record_refused", c_void_p)
 _start = _call("start", c_void_p, _u64)
 _stop = _call("stop", c_void_p)
 _offer = _call("offer", c_void_p, _u64, _u32, c_void_p, c_size_t, POINTER(Offered))
@@ -284,6 +290,7 @@ _tick = _call("tick", c_void_p, _u64, POINTER(c_uint32), _number)
 _clear = _call("clear", c_void_p, _number)
 _write = _call("write", c_void_p, _u64, c_char_p)
 _release = _call("release", c_void_p, _u64)
+_forget = _call("forget", c_void_p, _u64)
 _snapshot = _call("snapshot", c_void_p, _u64, c_char_p)
 _listen = _call("listen", POINTER(c_void_p), c_void_p, c_char_p, c_char_p)
 _listener_stop = _call("listener_stop", c_void_p)

@@ -71,7 +71,10 @@ pub struct About {
     pub archives: u64,
     pub begun: u64,
     pub last: u64,
-    reserved: [u64; 9],
+    uuid: [u8; 16],
+    /// Archives below this one are forgotten.
+    pub forgotten: u64,
+    reserved: [u64; 6],
 }
 
 /// What an archive has, or had before it was released.
@@ -118,6 +121,7 @@ extern "C" {
     pub fn tracerd_producer_number(p: *const RawProducer) -> u64;
     pub fn tracerd_producer_done(p: *mut RawProducer) -> u32;
     pub fn tracerd_declare(s: *mut RawSession, text: *const c_char, line: *mut u64) -> u32;
+    pub fn tracerd_record_refused(s: *mut RawSession) -> u32;
     pub fn tracerd_start(s: *mut RawSession, moment: u64) -> u32;
     pub fn tracerd_stop(s: *mut RawSession) -> u32;
     pub fn tracerd_offer(
@@ -139,6 +143,7 @@ extern "C" {
     pub fn tracerd_clear(s: *mut RawSession, records: *mut u64) -> u32;
     pub fn tracerd_write(s: *mut RawSession, archive: u64, folder: *const c_char) -> u32;
     pub fn tracerd_release(s: *mut RawSession, archive: u64) -> u32;
+    pub fn tracerd_forget(s: *mut RawSession, archive: u64) -> u32;
     pub fn tracerd_snapshot(s: *mut RawSession, moment: u64, folder: *const c_char) -> u32;
     pub fn tracerd_audit(
         folder: *const c_char,

@@ -99,6 +99,7 @@ pub enum Fate {
     Discarded,
     Overwritten,
     Cleared { packet: u64 },
+    Forgotten,
 }
 
 /// Why a tick rotated, and the archive that it made.
@@ -196,6 +197,15 @@ impl Session {
         }
     }
 
+    /// Has archives say what was refused: records `offers_refused`, with the sums of their producer so far by why. Before the
+    /// start; it declares that event beside the program's, of which no line is told if it is refused (0).
+    pub fn record_refused(&self) -> Result<(), Refused> {
+        match unsafe { ffi::tracerd_record_refused(self.raw()) } {
+            0 => Ok(()),
+            status => Err(Refused::from_line(status, 0)),
+        }
+    }
+
     /// The moment by the session's clock, for offers and calls on it.
     pub fn now(&self) -> u64 {
         unsafe { ffi::tracerd_now_of(self.raw()) }
@@ -257,6 +267,12 @@ impl Session {
 
     pub fn release(&self, archive: u64) -> Result<(), Refused> {
         done(unsafe { ffi::tracerd_release(self.raw(), archive) })
+    }
+
+    /// Forgets the archives below this number, which have to be released: what these still take is given up. Counts stay, and
+    /// fates of what was offered before that archive began are `Forgotten`.
+    pub fn forget(&self, archive: u64) -> Result<(), Refused> {
+        done(unsafe { ffi::tracerd_forget(self.raw(), archive) })
     }
 
     pub fn snapshot(&self, moment: u64, folder: &Path) -> Result<(), Refused> {
@@ -350,7 +366,8 @@ impl Producer {
             2 => Fate::InChunk { chunk: it.chunk, packet: it.packet },
             3 => Fate::Discarded,
             4 => Fate::Overwritten,
-            _ => Fate::Cleared { packet: it.packet },
+            5 => Fate::Cleared { packet: it.packet },
+            _ => Fate::Forgotten,
         })
     }
 }

@@ -96,11 +96,11 @@ macro_rules! refusals {
 
 refusals! {
     NoMemory = 1, Closed = 2, BadMoment = 4, BadMode = 6, BadName = 7, BadOffset = 8,
-    Draining = 23, NotDraining = 24, Exists = 25, Listening = 26,
+    Draining = 23, NotDraining = 24, Exists = 25, Listening = 26, Forgotten = 27,
     SnapshotMode = 101, NotSnapshotMode = 102, NeverStarted = 103, RotationPending = 104, AlreadyRotated = 105,
     AlreadyActive = 106, NotActive = 107, DiscardInSnapshot = 109, AlreadyStarted = 110, BadGeometry = 111, TooMany = 112,
     NotPending = 113, NameTaken = 115, NoChannel = 117, NoArchive = 118, Released = 119,
-    Inactive = 201, TooBig = 202, Spent = 203, OtherLayout = 206, ZeroPeriod = 701, ZeroSize = 702,
+    Inactive = 201, TooBig = 202, Spent = 203, OtherLayout = 206, ZeroPeriod = 701, ZeroSize = 702, Held = 1202,
     ;
     lines:
     BadEvent = 1001, BadField = 1002, BadType = 1003, NotAlone = 1004, FieldTwice = 1005, EventTaken = 1006,
