@@ -25,47 +25,33 @@
 extern "C" {
 #endif
 
-/* Refusals of the border itself. They are judged first, in the order: handles (CLOSED, IN_USE), then the other arguments in the
- * order in which they are given. */
+/* Refusals of the border itself are judged first, in the order: handles (CLOSED, IN_USE), then the other arguments in the order
+ * in which they are given. A refusal that tracerd.h names has its number there: NO_MEMORY (also in place of S16, T3, C2, X2, Y3
+ * and A5), CLOSED (a handle that should be open), BAD_MOMENT, BAD_MODE (neither 0 nor 1), BAD_NAME (not 1 to 64 letters, digits
+ * and underscores, a letter first), BAD_OFFSET. The others are these. */
 enum {
-    TRC_DONE = 0,
-    TRC_NO_MEMORY = 1,  /* an allocation failed: also in place of S16, T3, C2, X2, Y3 and A5 */
-    TRC_CLOSED = 2,     /* a handle that should be open is closed */
-    TRC_IN_USE = 3,     /* a handle that should be closed is open */
-    TRC_BAD_MOMENT = 4, /* above 9,000,000,000,000,000,000 */
-    TRC_BAD_UUID = 5,   /* not of 16 bytes */
-    TRC_BAD_MODE = 6,   /* a mode that is neither 0 nor 1 */
-    TRC_BAD_NAME = 7,   /* not 1 to 64 letters, digits and underscores, a letter first */
-    TRC_BAD_OFFSET = 8, /* not from -1,439 to 1,439 minutes */
-    TRC_NO_ROOM = 9,    /* the room is too small for the text */
-    TRC_NO_PART = 10,   /* the stream has no part of this number */
+    TRC_DONE = TRACERD_OK,
+    TRC_IN_USE = 3,      /* a handle that should be closed is open */
+    TRC_BAD_UUID = 5,    /* not of 16 bytes */
+    TRC_NO_ROOM = 9,     /* the room is too small for the text */
+    TRC_NO_PART = 10,    /* the stream has no part of this number */
     TRC_BAD_NUMBER = 11, /* a number is no refusal's, or no answer's */
     TRC_TOO_MUCH = TRACERD_READ, /* an audit was fed 2^62 bytes, or began 2^62 pieces */
-    TRC_MISPLACED = 120 /* S20: the stream isn't one of this book's trace */
+    TRC_MISPLACED = 120  /* S20: the stream isn't one of this book's trace */
 };
 
 /* Refusals of the session, a stream, a schedule and an audit are the numbers of the product's own codes: 100 + n for Sn,
  * 200 + n for On (offer), 300 + n for Tn (take), 400 + n for Cn (cut), 500 + n for Xn (clear), 600 + n for Yn (release),
  * 700 + n for Dn (schedule), 800 + n for An (audit), 900 + n for Gn (geometry), 1000 + n for Vn (a line of
- * declarations), 1200 + n for Zn (forget). */
+ * declarations), 1200 + n for Zn (forget). These are those that tracerd.h doesn't name. */
 enum {
-    TRC_S_SNAPSHOT_MODE = 101, TRC_S_NOT_SNAPSHOT_MODE = 102, TRC_S_NEVER_STARTED = 103, TRC_S_ROTATION_PENDING = 104,
-    TRC_S_ALREADY_ROTATED = 105, TRC_S_ALREADY_ACTIVE = 106, TRC_S_NOT_ACTIVE = 107, TRC_S_NO_STREAM = 108,
-    TRC_S_DISCARD_IN_SNAPSHOT = 109, TRC_S_ALREADY_STARTED = 110, TRC_S_BAD_GEOMETRY = 111, TRC_S_TOO_MANY = 112,
-    TRC_S_NOT_PENDING = 113, TRC_S_CUT_MISSING = 114, TRC_S_NAME_TAKEN = 115, TRC_S_NO_CHANNEL = 117,
-    TRC_S_NO_ARCHIVE = 118, TRC_S_RELEASED = 119, TRC_S_MISPLACED = 120,
-    TRC_O_INACTIVE = 201, TRC_O_TOO_BIG = 202, TRC_O_SPENT = 203, TRC_O_OTHER_LAYOUT = 206,
+    TRC_S_NO_STREAM = 108, TRC_S_CUT_MISSING = 114,
     TRC_T_NOTHING = 301, TRC_T_SNAPSHOT_MODE = 302,
     TRC_C_SNAPSHOT_MODE = 401,
     TRC_X_SNAPSHOT_MODE = 501,
     TRC_Y_NO_PART = 601, TRC_Y_RELEASED = 602,
-    TRC_D_ZERO_PERIOD = 701, TRC_D_ZERO_SIZE = 702,
-    TRC_A_PACKET = 801, TRC_A_NUMBER_REPEAT = 802, TRC_A_SERIAL_REPEAT = 803, TRC_A_FOREIGN = 804,
     TRC_G_BAD_SIZE = 901, TRC_G_BAD_COUNT = 902,
-    TRC_V_BAD_EVENT = 1001, TRC_V_BAD_FIELD = 1002, TRC_V_BAD_TYPE = 1003, TRC_V_NOT_ALONE = 1004, TRC_V_FIELD_TWICE = 1005,
-    TRC_V_EVENT_TAKEN = 1006, TRC_V_TOO_MANY = 1007, TRC_V_BAD_VARIABLE = 1008, TRC_V_BAD_VALUE = 1009,
-    TRC_V_VARIABLE_TAKEN = 1010, TRC_V_TOO_MANY_VARIABLES = 1011,
-    TRC_Z_NO_PART = 1201, TRC_Z_HELD = 1202
+    TRC_Z_NO_PART = 1201
 };
 
 enum { TRC_DISCARD = 0, TRC_OVERWRITE = 1 };          /* modes of a channel */

@@ -23,7 +23,7 @@ from typing import TYPE_CHECKING, Any, TypeVar
 __version__ = "0.9.0"
 
 from ._library import (
-    About, Archive, Audited, Counts, Fate, Offered, Status,
+    About, Archive, Audited, Counts, Fate, Offered,
     _about_of, _archive_of, _audit, _channel, _clear, _counts_of, _counts_sum, _declare, _drain, _drainer_start, _drainer_stop,
     _fate_of, _forget, _free, _listen, _listener_stop, _new, _now, _now_of, _offer, _passed, _producer_done, _producer_new,
     _producer_number, _record_refused, _release, _rings_in, _rotate, _rotate_on, _schedule, _settle, _snapshot, _start,
@@ -32,6 +32,7 @@ from ._library import (
 
 from ._events import Event
 from ._logging import Handler
+from ._status import Status
 
 if TYPE_CHECKING:
     from _typeshed import ReadableBuffer, StrOrBytesPath

@@ -1,8 +1,7 @@
-"""What tracerd.h declares: statuses, results, and the calls of the library."""
+"""What tracerd.h declares: results, and the calls of the library."""
 from __future__ import annotations
 
 import ctypes
-import enum
 import os
 from ctypes import POINTER, c_char_p, c_int, c_int32, c_size_t, c_ssize_t, c_uint32, c_uint64, c_void_p, py_object
 from typing import TYPE_CHECKING, Any
@@ -11,73 +10,6 @@ from . import __version__
 
 if TYPE_CHECKING:
     from _typeshed import ReadableBuffer
-
-
-class Status(enum.IntEnum):
-    """What a call answers."""
-
-    OK = 0
-    NO_MEMORY = 1
-    CLOSED = 2
-    BAD_MOMENT = 4
-    BAD_MODE = 6
-    BAD_NAME = 7
-    BAD_OFFSET = 8
-    WRITE = 20
-    READ = 21
-    MISSING = 22
-    DRAINING = 23
-    NOT_DRAINING = 24
-    EXISTS = 25
-    LISTENING = 26
-    FORGOTTEN = 27
-    SNAPSHOT_MODE = 101
-    NOT_SNAPSHOT_MODE = 102
-    NEVER_STARTED = 103
-    ROTATION_PENDING = 104
-    ALREADY_ROTATED = 105
-    ALREADY_ACTIVE = 106
-    NOT_ACTIVE = 107
-    DISCARD_IN_SNAPSHOT = 109
-    ALREADY_STARTED = 110
-    BAD_GEOMETRY = 111
-    TOO_MANY = 112
-    NOT_PENDING = 113
-    NAME_TAKEN = 115
-    NO_CHANNEL = 117
-    NO_ARCHIVE = 118
-    RELEASED = 119
-    INACTIVE = 201
-    TOO_BIG = 202
-    SPENT = 203
-    OTHER_LAYOUT = 206
-    ZERO_PERIOD = 701
-    ZERO_SIZE = 702
-    PACKET = 801
-    NUMBER_REPEAT = 802
-    SERIAL_REPEAT = 803
-    FOREIGN = 804
-    BAD_EVENT = 1001
-    BAD_FIELD = 1002
-    BAD_TYPE = 1003
-    NOT_ALONE = 1004
-    FIELD_TWICE = 1005
-    EVENT_TAKEN = 1006
-    TOO_MANY_DECLARED = 1007
-    BAD_VARIABLE = 1008
-    BAD_VALUE = 1009
-    VARIABLE_TAKEN = 1010
-    TOO_MANY_VARIABLES = 1011
-    HELD = 1202
-
-    @classmethod
-    def _missing_(cls, value: object) -> Status | None:
-        """One that a later library answers: it has no name here."""
-        if not isinstance(value, int):
-            return None
-        later = int.__new__(cls, value)
-        later._name_, later._value_ = "UNKNOWN", value
-        return later
 
 
 class _Struct(ctypes.Structure):

@@ -3,14 +3,6 @@ use crate::ffi;
 use std::ffi::CStr;
 use std::{fmt, io};
 
-const WRITE: u32 = 20;
-const READ: u32 = 21;
-pub(crate) const MISSING: u32 = 22;
-const PACKET: u32 = 801;
-const NUMBER_REPEAT: u32 = 802;
-const SERIAL_REPEAT: u32 = 803;
-const FOREIGN: u32 = 804;
-
 /// Where an audit found a fault.
 #[derive(Clone, Copy, Debug, PartialEq, Eq)]
 #[non_exhaustive]
@@ -24,12 +16,12 @@ pub struct Fault {
 }
 
 macro_rules! refusals {
-    ($($name:ident = $code:literal,)*; lines: $($bad:ident = $of_line:literal,)*) => {
+    ($($(#[$said:meta])* $name:ident = $code:literal,)*; lines: $($(#[$said_of_line:meta])* $bad:ident = $of_line:literal,)*) => {
         /// Why a call was refused. A later library may answer what isn't here: match with a last arm for it.
         #[derive(Debug)]
         #[non_exhaustive]
         pub enum Refused {
-            $(#[doc = concat!("The status ", $code, " of `tracerd.h`.")] $name,)*
+            $($(#[$said])* $name,)*
             /// A folder or a file could not be made or written, for this reason.
             Write(io::Error),
             /// A folder or a file could not be read, for this reason.
@@ -44,7 +36,7 @@ macro_rules! refusals {
             SerialRepeat(Fault),
             /// An audit found a packet of another trace or another stream here.
             Foreign(Fault),
-            $(#[doc = concat!("The status ", $of_line, " of `tracerd.h`: the first line that is refused.")] $bad(u64),)*
+            $($(#[$said_of_line])* $bad(u64),)*
             /// A status that this version of the crate doesn't know.
             Other(u32),
         }
@@ -94,18 +86,7 @@ macro_rules! refusals {
     };
 }
 
-refusals! {
-    NoMemory = 1, Closed = 2, BadMoment = 4, BadMode = 6, BadName = 7, BadOffset = 8,
-    Draining = 23, NotDraining = 24, Exists = 25, Listening = 26, Forgotten = 27,
-    SnapshotMode = 101, NotSnapshotMode = 102, NeverStarted = 103, RotationPending = 104, AlreadyRotated = 105,
-    AlreadyActive = 106, NotActive = 107, DiscardInSnapshot = 109, AlreadyStarted = 110, BadGeometry = 111, TooMany = 112,
-    NotPending = 113, NameTaken = 115, NoChannel = 117, NoArchive = 118, Released = 119,
-    Inactive = 201, TooBig = 202, Spent = 203, OtherLayout = 206, ZeroPeriod = 701, ZeroSize = 702, Held = 1202,
-    ;
-    lines:
-    BadEvent = 1001, BadField = 1002, BadType = 1003, NotAlone = 1004, FieldTwice = 1005, EventTaken = 1006,
-    TooManyDeclared = 1007, BadVariable = 1008, BadValue = 1009, VariableTaken = 1010, TooManyVariables = 1011,
-}
+include!("statuses.rs");
 
 impl Refused {
     /// Of an audit that stopped at a fault.
