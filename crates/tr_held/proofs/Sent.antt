@@ -25,6 +25,8 @@ use Rattle.tr_terms.specs.contracts.offset.OffsetMinutes as OffsetMinutes
 use Rattle.tr_terms.specs.contracts.session_mode.SessionMode as SessionMode
 use Rattle.uuid.specs.contracts.Uuid as Uuid
 use Rattle.tr_book.specs.contracts.book.Book as Book
+use Rattle.tr_book.specs.contracts.closed.ClosedParts as ClosedParts
+use Rattle.tr_book.specs.contracts.closed.Gone as Gone
 use Rattle.tr_book.specs.contracts.part.Part as Part
 use Rattle.tr_book.specs.contracts.part.Body as Body
 use Rattle.tr_book.specs.contracts.parts.Parts as Parts
@@ -64,8 +66,29 @@ body = search (sendable, crosses, texts, runs) depth 40
 part : IsSend (Part.the_row heap.the_row ghosts)
 part = search (sendable, crosses, body) depth 40
 
+gone : IsSend (Gone.the_row heap.the_row ghosts)
+gone = search (sendable, crosses) depth 40
+
+closed : IsSend (ClosedParts.the_row heap.the_row ghosts)
+closed = search (sendable, crosses, part, gone) depth 40
+
 parts : IsSend (Parts.the_row heap.the_row ghosts)
-parts = search (sendable, crosses, part, runs) depth 40
+parts = record {
+  owned = λ d vs x. (
+    (λ p. (
+      tt,
+      (
+        memory.owned x.0.alloc p.0,
+        (
+          closed.owned x.0.closed p.1.0,
+          (part.owned x.0.current p.1.1.0, (runs.owned x.0.cleared p.1.1.1.0, tt)),
+        ),
+      ),
+    )),
+    tt,
+  );
+  leaving = λ k d w. tt;
+}
 
 config : IsSend StreamConfig.the_row
 config = search (sendable, crosses) depth 40
