@@ -164,8 +164,8 @@ TRACERD_API void tracerd_free(tracerd_session *);
  *
  * Whenever no offer is under way each sub-buffer that has a record is, in the file, the text of a packet; while one is, it is that
  * of the records before it, or of all. `tracerd recover FILE DIR` makes an archive of them, with the metadata that is in the file.
- * A packet stays there until its archive is released, but for those that a rotation closes with less than a quarter of their
- * sub-buffer: these are in memory of their own, and so is what a snapshot copies. To lose nothing, keep archives on disk
+ * A packet stays there until its archive is released, but for those that a drain or a rotation takes with less than a quarter of
+ * their sub-buffer: these are in memory of their own, and so is what a snapshot copies. To lose nothing, keep archives on disk
  * (tracerd_keeper_start), or have a snapshot session. What the machine itself loses by a crash or a power cut isn't in the file.
  *
  * The file is for its owner alone (0600), and so large that its file system has its bytes when a producer is made or a stream is
@@ -327,10 +327,11 @@ tracerd_status tracerd_write(tracerd_session *, uint64_t archive, const char *fo
 TRACERD_API TRACERD_POINTERS
 tracerd_status tracerd_release(tracerd_session *, uint64_t archive);
 /* Forgets the archives below this number, which have to be released: what a released one still takes, 112 bytes a producer and
- * more for each of its packets, is given up, so that what many of them leave is 24 bytes for each, in all. Counts and sums stay;
- * of a record that was offered before archive `archive` began the fate is FORGOTTEN, and tracerd_archive_of a forgotten archive
- * too. What was forgotten before stays so. What a clear leaves, 24 bytes or more for each packet, isn't given up. NO_ARCHIVE. HELD,
- * NO_MEMORY: some producers' parts may be given up. */
+ * more for each of its packets, is given up, so that what many of them leave is 24 bytes for each, in all. Counts and sums stay.
+ * The fate of a record that was offered before archive `archive` began is TRACERD_WAS_FORGOTTEN, and tracerd_archive_of a
+ * forgotten archive answers FORGOTTEN. What was forgotten before stays so. What a clear leaves, 24 bytes or more for each packet,
+ * isn't given up. NO_ARCHIVE, HELD. NO_MEMORY: the archives are forgotten, and the next call gives up what some producers still
+ * have of them. */
 TRACERD_API TRACERD_POINTERS
 tracerd_status tracerd_forget(tracerd_session *, uint64_t archive);
 /* Writes what the rings of a snapshot session hold, in the form of archive 0 and as tracerd_write does, below a folder that is
@@ -444,8 +445,9 @@ typedef struct tracerd_keeper tracerd_keeper; /* two threads of the library's ow
 
 /* Starts a keeper. One of its threads drains each 10 milliseconds and rotates by tracerd_schedule(session, every, bytes) and
  * tracerd_tick, at the session's clock. The other one writes each archive, also such as the program rotates, as tracerd_write
- * does, releases it, and then deletes the oldest beyond the last `keep`, and forgets what it deleted, and what is older: so
- * memory has a bound too. TRACERD_NEVER of `every`, `bytes` or `keep` leaves it out; without `keep` nothing is forgotten.
+ * does, releases it, and then deletes the oldest beyond the last `keep`, and forgets what it deleted, and what is older: so memory
+ * grows by 24 bytes an archive, and by what clears leave. TRACERD_NEVER of `every`, `bytes` or `keep` leaves it out; without `keep`
+ * nothing is forgotten.
  *
  * Archives are below a folder of this run's own, FOLDER/SESSION-BEGIN: BEGIN is this moment, in the form of archives' names, and
  * -1, -2 and so on follow if that is there. Only archives of this run are deleted, and of their folders only the archive's own

@@ -66,19 +66,43 @@ tracerd_status tracerd_release(tracerd_session *t, uint64_t archive) {
     return status;
 }
 
-/* The desk is held. Each stream asks whether it has released all of them. */
-static tracerd_status forget_locked(tracerd_session *t, uint64_t archive) {
+/* Whether a slot's stream has released its parts of these archives, or forgotten them. */
+static tracerd_status ask_released(slot *s, uint64_t from, uint64_t to) {
+    for (uint64_t k = from; k < to; k++) {
+        trc_part part;
+        tracerd_status status = ask_part(s, k, &part);
+        if (status == TRACERD_FORGOTTEN)
+            continue;
+        if (status)
+            return status;
+        if (!part.released)
+            return TRACERD_HELD;
+    }
+    return TRACERD_OK;
+}
+
+/* Whether all archives below this one are there, and each stream has released them. The desk is held. */
+static tracerd_status may_forget_locked(tracerd_session *t, uint64_t archive) {
     trc_about about;
     tracerd_status status = trc_book_about(&t->book, &about);
     if (!status && archive > about.archives)
         return TRACERD_NO_ARCHIVE;
+    for (slot *s = first_slot(t); !status && s; s = next_slot(t, s))
+        status = ask_released(s, t->forgotten, archive);
+    return status;
+}
+
+/* Once one stream has forgotten, the archives count as forgotten: if another lacks memory, the next call goes on. The desk is
+ * held. */
+static tracerd_status forget_locked(tracerd_session *t, uint64_t archive) {
+    tracerd_status status = may_forget_locked(t, archive);
+    if (!status && archive > t->forgotten)
+        t->forgotten = archive;
     for (slot *s = first_slot(t); !status && s; s = next_slot(t, s)) {
         pthread_mutex_lock(&s->lock);
         status = trc_stream_forget(&s->stream, archive);
         pthread_mutex_unlock(&s->lock);
     }
-    if (!status && archive > t->forgotten)
-        t->forgotten = archive;
     return status;
 }
 

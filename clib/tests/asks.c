@@ -7,7 +7,7 @@
 #define FIRST "19700101T000000+0000-19700101T000000+0000-0"
 #define HEADS "stream     offered   discarded overwritten     in-ring   in-chunks\n"
 
-/* README's example: of six offers the fifth is discarded, and one sub-buffer is taken. */
+/* The tour's example: of six offers the fifth is discarded, and one sub-buffer is taken. */
 static void offers_as_readme(void) {
     uint64_t packets;
     for (uint64_t moment = 1; moment <= 5; moment++) offers(moment, 50);

@@ -74,6 +74,25 @@ static void meets_the_pending(tracerd_session *s, tracerd_producer *p) {
     is(status == TRACERD_OK || is_refused);
 }
 
+static bool was_half_released;
+
+/* Of an archive that only some streams have released nothing is forgotten. */
+static void releases(tracerd_session *s) {
+    tracerd_archive archive;
+    long before = refused;
+    tracerd_status status = tracerd_release(s, 0);
+    if (had_no_memory(status, before, ALL, "release", __LINE__)) {
+        answers(OK, tracerd_archive_of(s, 0, &archive));
+        was_half_released |= archive.is_released;
+        uint64_t bytes = archive.bytes;
+        answers(HELD, tracerd_forget(s, 1));
+        answers(OK, tracerd_archive_of(s, 0, &archive));
+        is(archive.bytes == bytes);
+        status = tracerd_release(s, 0);
+    }
+    is_status(status, TRACERD_OK, "release", __FILE__, __LINE__);
+}
+
 static void records(const char *dir) {
     tracerd_session *s;
     tracerd_producer *p, *q;
@@ -103,7 +122,7 @@ static void records(const char *dir) {
     is(a.records == 3 || a.records == 4);
     for (uint64_t k = 0; k < 8; k++) answers(OK, tracerd_offer(k & 1 ? p : q, k, 1, "abc", 3, &o));
     meets_the_pending(s, q);
-    goes_without(ALL, tracerd_release(s, 0));
+    releases(s);
     goes(tracerd_forget(s, 1));
     for (uint64_t k = 0; k < 8; k++) answers(OK, tracerd_offer(q, k, 1, "abc", 3, &o));
     goes_without(ALL, tracerd_clear(s, &n));
@@ -284,7 +303,7 @@ int main(int count, char **words) {
         }
     }
     is_lasting = false;
-    is(was_pending && done_without && !half_apart);
+    is(was_pending && was_half_released && done_without && !half_apart);
     counts_as_one();
     return closing();
 }
