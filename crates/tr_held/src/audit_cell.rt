@@ -29,7 +29,7 @@ unsafe impl Send for AuditCell {}
 
 impl Drop for AuditCell {
     fn drop(self) {
-        if let Ok(kept) = self.loosened().into_box() {
+        if let Ok(kept) = self.into_held().into_box() {
             drop(kept);
         }
     }
@@ -37,7 +37,7 @@ impl Drop for AuditCell {
 
 impl AuditCell {
     /// What C holds of this.
-    fn fastened(held: Held<AuditReader<Global>, Global>) -> AuditCell
+    fn from_held(held: Held<AuditReader<Global>, Global>) -> AuditCell
         ensures { result.value ≡ held.value }
     {
         let Held { at, live, alloc } = held;
@@ -49,7 +49,7 @@ impl AuditCell {
     }
 
     /// What C held.
-    fn loosened(self) -> Held<AuditReader<Global>, Global>
+    fn into_held(self) -> Held<AuditReader<Global>, Global>
         ensures { result.value ≡ self.value }
     {
         let AuditCell { at, live, alloc } = self;
@@ -64,7 +64,7 @@ impl AuditCell {
     pub fn closed(alloc: Global) -> AuditCell
         ensures { result.value ≡ None }
     {
-        AuditCell::fastened(Held::nothing(alloc))
+        AuditCell::from_held(Held::nothing(alloc))
     }
 
     /// What the handle had, which has nothing now.
@@ -73,7 +73,7 @@ impl AuditCell {
         ensures closed { self.new.value ≡ None }
     {
         let whole = replace(self, AuditCell::closed(alloc));
-        match whole.loosened().into_box() {
+        match whole.into_held().into_box() {
             Ok(kept) => Some(kept),
             Err(_) => None,
         }
@@ -83,6 +83,6 @@ impl AuditCell {
     pub fn put(&mut self, kept: Box<AuditReader<Global>>)
         ensures { self.new.value ≡ Some kept.value }
     {
-        *self = AuditCell::fastened(Held::of(kept));
+        *self = AuditCell::from_held(Held::of(kept));
     }
 }

@@ -29,7 +29,7 @@ unsafe impl Send for BookCell {}
 
 impl Drop for BookCell {
     fn drop(self) {
-        if let Ok(kept) = self.loosened().into_box() {
+        if let Ok(kept) = self.into_held().into_box() {
             drop(kept);
         }
     }
@@ -37,7 +37,7 @@ impl Drop for BookCell {
 
 impl BookCell {
     /// What C holds of this.
-    fn fastened(held: Held<SessionBook<Global>, Global>) -> BookCell
+    fn from_held(held: Held<SessionBook<Global>, Global>) -> BookCell
         ensures { result.value ≡ held.value }
     {
         let Held { at, live, alloc } = held;
@@ -49,7 +49,7 @@ impl BookCell {
     }
 
     /// What C held.
-    fn loosened(self) -> Held<SessionBook<Global>, Global>
+    fn into_held(self) -> Held<SessionBook<Global>, Global>
         ensures { result.value ≡ self.value }
     {
         let BookCell { at, live, alloc } = self;
@@ -64,7 +64,7 @@ impl BookCell {
     pub fn closed(alloc: Global) -> BookCell
         ensures { result.value ≡ None }
     {
-        BookCell::fastened(Held::nothing(alloc))
+        BookCell::from_held(Held::nothing(alloc))
     }
 
     /// What the handle had, which has nothing now.
@@ -73,7 +73,7 @@ impl BookCell {
         ensures closed { self.new.value ≡ None }
     {
         let whole = replace(self, BookCell::closed(alloc));
-        match whole.loosened().into_box() {
+        match whole.into_held().into_box() {
             Ok(kept) => Some(kept),
             Err(_) => None,
         }
@@ -83,6 +83,6 @@ impl BookCell {
     pub fn put(&mut self, kept: Box<SessionBook<Global>>)
         ensures { self.new.value ≡ Some kept.value }
     {
-        *self = BookCell::fastened(Held::of(kept));
+        *self = BookCell::from_held(Held::of(kept));
     }
 }

@@ -30,7 +30,7 @@ unsafe impl Send for EventsCell {}
 
 impl Drop for EventsCell {
     fn drop(self) {
-        if let Ok(kept) = self.loosened().into_box() {
+        if let Ok(kept) = self.into_held().into_box() {
             drop(kept);
         }
     }
@@ -38,7 +38,7 @@ impl Drop for EventsCell {
 
 impl EventsCell {
     /// What C holds of this.
-    fn fastened(held: Held<Arc<Events<Global>, Global>, Global>) -> EventsCell
+    fn from_held(held: Held<Arc<Events<Global>, Global>, Global>) -> EventsCell
         ensures { result.value ≡ held.value }
     {
         let Held { at, live, alloc } = held;
@@ -50,7 +50,7 @@ impl EventsCell {
     }
 
     /// What C held.
-    fn loosened(self) -> Held<Arc<Events<Global>, Global>, Global>
+    fn into_held(self) -> Held<Arc<Events<Global>, Global>, Global>
         ensures { result.value ≡ self.value }
     {
         let EventsCell { at, live, alloc } = self;
@@ -65,7 +65,7 @@ impl EventsCell {
     pub fn closed(alloc: Global) -> EventsCell
         ensures { result.value ≡ None }
     {
-        EventsCell::fastened(Held::nothing(alloc))
+        EventsCell::from_held(Held::nothing(alloc))
     }
 
     /// What the handle had, which has nothing now.
@@ -74,7 +74,7 @@ impl EventsCell {
         ensures closed { self.new.value ≡ None }
     {
         let whole = replace(self, EventsCell::closed(alloc));
-        match whole.loosened().into_box() {
+        match whole.into_held().into_box() {
             Ok(kept) => Some(kept),
             Err(_) => None,
         }
@@ -84,6 +84,6 @@ impl EventsCell {
     pub fn put(&mut self, kept: Box<Arc<Events<Global>, Global>>)
         ensures { self.new.value ≡ Some kept.value }
     {
-        *self = EventsCell::fastened(Held::of(kept));
+        *self = EventsCell::from_held(Held::of(kept));
     }
 }

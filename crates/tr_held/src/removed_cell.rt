@@ -29,7 +29,7 @@ unsafe impl Send for RemovedCell {}
 
 impl Drop for RemovedCell {
     fn drop(self) {
-        if let Ok(kept) = self.loosened().into_box() {
+        if let Ok(kept) = self.into_held().into_box() {
             drop(kept);
         }
     }
@@ -37,7 +37,7 @@ impl Drop for RemovedCell {
 
 impl RemovedCell {
     /// What C holds of this.
-    fn fastened(held: Held<Removed<Global>, Global>) -> RemovedCell
+    fn from_held(held: Held<Removed<Global>, Global>) -> RemovedCell
         ensures { result.value ≡ held.value }
     {
         let Held { at, live, alloc } = held;
@@ -49,7 +49,7 @@ impl RemovedCell {
     }
 
     /// What C held.
-    fn loosened(self) -> Held<Removed<Global>, Global>
+    fn into_held(self) -> Held<Removed<Global>, Global>
         ensures { result.value ≡ self.value }
     {
         let RemovedCell { at, live, alloc } = self;
@@ -64,7 +64,7 @@ impl RemovedCell {
     pub fn closed(alloc: Global) -> RemovedCell
         ensures { result.value ≡ None }
     {
-        RemovedCell::fastened(Held::nothing(alloc))
+        RemovedCell::from_held(Held::nothing(alloc))
     }
 
     /// What the handle had, which has nothing now.
@@ -73,7 +73,7 @@ impl RemovedCell {
         ensures closed { self.new.value ≡ None }
     {
         let whole = replace(self, RemovedCell::closed(alloc));
-        match whole.loosened().into_box() {
+        match whole.into_held().into_box() {
             Ok(kept) => Some(kept),
             Err(_) => None,
         }
@@ -83,6 +83,6 @@ impl RemovedCell {
     pub fn put(&mut self, kept: Box<Removed<Global>>)
         ensures { self.new.value ≡ Some kept.value }
     {
-        *self = RemovedCell::fastened(Held::of(kept));
+        *self = RemovedCell::from_held(Held::of(kept));
     }
 }

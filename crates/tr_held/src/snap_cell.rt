@@ -29,7 +29,7 @@ unsafe impl Send for SnapCell {}
 
 impl Drop for SnapCell {
     fn drop(self) {
-        if let Ok(kept) = self.loosened().into_box() {
+        if let Ok(kept) = self.into_held().into_box() {
             drop(kept);
         }
     }
@@ -37,7 +37,7 @@ impl Drop for SnapCell {
 
 impl SnapCell {
     /// What C holds of this.
-    fn fastened(held: Held<StreamSnap<Global>, Global>) -> SnapCell
+    fn from_held(held: Held<StreamSnap<Global>, Global>) -> SnapCell
         ensures { result.value ≡ held.value }
     {
         let Held { at, live, alloc } = held;
@@ -49,7 +49,7 @@ impl SnapCell {
     }
 
     /// What C held.
-    fn loosened(self) -> Held<StreamSnap<Global>, Global>
+    fn into_held(self) -> Held<StreamSnap<Global>, Global>
         ensures { result.value ≡ self.value }
     {
         let SnapCell { at, live, alloc } = self;
@@ -64,7 +64,7 @@ impl SnapCell {
     pub fn closed(alloc: Global) -> SnapCell
         ensures { result.value ≡ None }
     {
-        SnapCell::fastened(Held::nothing(alloc))
+        SnapCell::from_held(Held::nothing(alloc))
     }
 
     /// What the handle had, which has nothing now.
@@ -73,7 +73,7 @@ impl SnapCell {
         ensures closed { self.new.value ≡ None }
     {
         let whole = replace(self, SnapCell::closed(alloc));
-        match whole.loosened().into_box() {
+        match whole.into_held().into_box() {
             Ok(kept) => Some(kept),
             Err(_) => None,
         }
@@ -83,6 +83,6 @@ impl SnapCell {
     pub fn put(&mut self, kept: Box<StreamSnap<Global>>)
         ensures { self.new.value ≡ Some kept.value }
     {
-        *self = SnapCell::fastened(Held::of(kept));
+        *self = SnapCell::from_held(Held::of(kept));
     }
 }

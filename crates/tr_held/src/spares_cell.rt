@@ -29,7 +29,7 @@ unsafe impl Send for SparesCell {}
 
 impl Drop for SparesCell {
     fn drop(self) {
-        if let Ok(kept) = self.loosened().into_box() {
+        if let Ok(kept) = self.into_held().into_box() {
             drop(kept);
         }
     }
@@ -37,7 +37,7 @@ impl Drop for SparesCell {
 
 impl SparesCell {
     /// What C holds of this.
-    fn fastened(held: Held<Spares<Global>, Global>) -> SparesCell
+    fn from_held(held: Held<Spares<Global>, Global>) -> SparesCell
         ensures { result.value ≡ held.value }
     {
         let Held { at, live, alloc } = held;
@@ -49,7 +49,7 @@ impl SparesCell {
     }
 
     /// What C held.
-    fn loosened(self) -> Held<Spares<Global>, Global>
+    fn into_held(self) -> Held<Spares<Global>, Global>
         ensures { result.value ≡ self.value }
     {
         let SparesCell { at, live, alloc } = self;
@@ -64,7 +64,7 @@ impl SparesCell {
     pub fn closed(alloc: Global) -> SparesCell
         ensures { result.value ≡ None }
     {
-        SparesCell::fastened(Held::nothing(alloc))
+        SparesCell::from_held(Held::nothing(alloc))
     }
 
     /// What the handle had, which has nothing now.
@@ -73,7 +73,7 @@ impl SparesCell {
         ensures closed { self.new.value ≡ None }
     {
         let whole = replace(self, SparesCell::closed(alloc));
-        match whole.loosened().into_box() {
+        match whole.into_held().into_box() {
             Ok(kept) => Some(kept),
             Err(_) => None,
         }
@@ -83,6 +83,6 @@ impl SparesCell {
     pub fn put(&mut self, kept: Box<Spares<Global>>)
         ensures { self.new.value ≡ Some kept.value }
     {
-        *self = SparesCell::fastened(Held::of(kept));
+        *self = SparesCell::from_held(Held::of(kept));
     }
 }

@@ -29,7 +29,7 @@ unsafe impl Send for StreamCell {}
 
 impl Drop for StreamCell {
     fn drop(self) {
-        if let Ok(kept) = self.loosened().into_box() {
+        if let Ok(kept) = self.into_held().into_box() {
             drop(kept);
         }
     }
@@ -37,7 +37,7 @@ impl Drop for StreamCell {
 
 impl StreamCell {
     /// What C holds of this.
-    fn fastened(held: Held<Stream<Global>, Global>) -> StreamCell
+    fn from_held(held: Held<Stream<Global>, Global>) -> StreamCell
         ensures { result.value ≡ held.value }
     {
         let Held { at, live, alloc } = held;
@@ -49,7 +49,7 @@ impl StreamCell {
     }
 
     /// What C held.
-    fn loosened(self) -> Held<Stream<Global>, Global>
+    fn into_held(self) -> Held<Stream<Global>, Global>
         ensures { result.value ≡ self.value }
     {
         let StreamCell { at, live, alloc } = self;
@@ -64,7 +64,7 @@ impl StreamCell {
     pub fn closed(alloc: Global) -> StreamCell
         ensures { result.value ≡ None }
     {
-        StreamCell::fastened(Held::nothing(alloc))
+        StreamCell::from_held(Held::nothing(alloc))
     }
 
     /// What the handle had, which has nothing now.
@@ -73,7 +73,7 @@ impl StreamCell {
         ensures closed { self.new.value ≡ None }
     {
         let whole = replace(self, StreamCell::closed(alloc));
-        match whole.loosened().into_box() {
+        match whole.into_held().into_box() {
             Ok(kept) => Some(kept),
             Err(_) => None,
         }
@@ -83,6 +83,6 @@ impl StreamCell {
     pub fn put(&mut self, kept: Box<Stream<Global>>)
         ensures { self.new.value ≡ Some kept.value }
     {
-        *self = StreamCell::fastened(Held::of(kept));
+        *self = StreamCell::from_held(Held::of(kept));
     }
 }
