@@ -1,5 +1,6 @@
-//! The tests of tr_seats, of tr_shared, and of tr_pool on it (`seats`, `shared`, `feeding`, `gates`, `intakes`): offers and takes that
-//! move seats, drainers, desks, sessions that are settled, the threads that share one, and feeders and workers in threads.
+//! The tests of tr_seats, of tr_shared, and of tr_lends and tr_pool on it (`seats`, `shared`, `feeding`, `gates`, `intakes`): offers
+//! and takes that move seats, drainers, desks, sessions that are settled, the threads that share one, producers that are lent, and
+//! feeders and workers in threads.
 //!
 //! Some functions drop by name what they hold at their end, which is proved in less time.
 #![tactic(auto)]

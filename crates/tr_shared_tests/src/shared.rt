@@ -5,6 +5,7 @@ ghost use Rattle.std.specs.Prelude.{◌≡◌, ◌<◌};
 mod clearing;
 mod contention;
 mod declared;
+mod lending;
 mod operators;
 mod rotating;
 mod snapshots;
