@@ -18,8 +18,8 @@
 //!   `into_parts`, `OpenPart::push`, `Book::note_cleared`; `Parts::clear`: `ok`, `err`; `clear_out`: `packets`, `ok`, `err`;
 //!   `release`: `ok`, `err`, `memory`; `release_out`: `packets`, `ok`, `err`, `memory`; `current`, `cuts`: `value`, `numbered`;
 //!   `Part::bytes`: `value`, `small`).
-//! - Closed parts that were released can be forgotten, the first ones: then nothing is kept of them but how many they are, and
-//!   the serial at which the part after them began; contracts go on to see them (`Parts::forget`: `ok`, `err`; `forgotten`:
+//! - Closed parts that were released can be forgotten, the first ones: then `part` has none of them, and it is known how many
+//!   they are and where the part after them began; contracts go on to see them (`Parts::forget`: `ok`, `err`; `forgotten`:
 //!   `value`, `released` (`IsForgetful`); `known_from`; `part` (`part_known`)).
 //! - A packet's runs are as long as they can be and in order, and none goes over two packets. Of a packet that says no more was
 //!   lost than the one before it, they are known by its first record and its count (`Runs::push_records`, `push_packets`;
