@@ -64,8 +64,8 @@
 //! # What is only tested
 //!
 //! That a list of calls ends with "out of memory" only if an allocation failed, and so does a forget; and that a forget gives
-//! memory up. (The runs of what was cleared stay.) Tests add worked examples of each call, and 100,000 offers in each mode with no
-//! byte of memory left: none is refused or moves a byte of the heap, and a take after them is out of memory.
+//! memory up. (The runs of what was cleared stay.) Tests add worked examples of each call, and 100,000 offers in each mode with
+//! no byte of memory left: none is refused or moves a byte of the heap, and a take after them is out of memory.
 #![tactic(auto)]
 
 mod answers;

@@ -17,6 +17,7 @@ use tr_testing::moment;
 
 /// How many threads come, and how many records each offers.
 const THREADS: u64 = 16;
+
 const OFFERS: u64 = 1_000;
 
 /// Gives a pool a producer, which it takes.
