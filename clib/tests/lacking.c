@@ -1,5 +1,6 @@
-/* Lines of a shell of which each allocation fails in turn, alone or with all after it: each is answered as with memory, or refused
- * for want of it, or its client is hung up on; and in the end all is given back.
+/* Lines of a shell of which each allocation fails in turn, alone or with all after it: each is answered as with memory, or
+ * refused for want of it, or its client is hung up on; and in the end all is given back. A listener or a keeper without its
+ * threads is none.
  *
  *     lacking DIR     a folder that is there */
 #include "rationed.h"
@@ -83,10 +84,36 @@ static void listens_with_a_thread(void) {
     is(held == 0);
 }
 
+/* A keeper without one of its threads, or both, is none, and another one may be started. */
+static void keeps_with_threads(void) {
+    tracerd_session *s;
+    tracerd_keeper *k = NULL;
+    tracerd_producer *p;
+    answers(OK, tracerd_new(&s, "a", ONE, 0, TRACERD_LOCAL));
+    answers(OK, tracerd_channel(s, "c", 256, 2, TRACERD_DISCARD));
+    answers(OK, tracerd_producer_new(s, "c", &p));
+    for (int first = 0; first < 2; first++) {
+        fails_to_create = true;
+        made_first = first;
+        answers(NO_MEMORY, tracerd_keeper_start(&k, s, dir, 1, 1, 1));
+        fails_to_create = false;
+        answers(NOT_DRAINING, tracerd_drainer_stop(s));
+        is(!k);
+    }
+    answers(OK, tracerd_drainer_start(s, 1));
+    answers(OK, tracerd_drainer_stop(s));
+    answers(OK, tracerd_keeper_start(&k, s, dir, 1, 1, 1));
+    answers(OK, tracerd_keeper_stop(k));
+    tracerd_free(s);
+    is(held == 0);
+}
+
 int main(int count, char **words) {
     if (count != 2) return 2;
     dir = words[1];
     listens_with_a_thread();
+    counts_as_one();
+    keeps_with_threads();
     counts_as_one();
     fails_each(answers_lines, 100);
     fails_each(answers_a_snapshot, 5);

@@ -205,30 +205,6 @@ static void tells(const char *dir) {
     tracerd_free(s);
 }
 
-/* A keeper without one of its threads, or both, is none, and another one may be started. */
-static void keeps_with_threads(const char *dir) {
-    tracerd_session *s;
-    tracerd_keeper *k = NULL;
-    tracerd_producer *p;
-    answers(OK, tracerd_new(&s, "a", ONE, 0, TRACERD_LOCAL));
-    answers(OK, tracerd_channel(s, "c", 256, 2, TRACERD_DISCARD));
-    answers(OK, tracerd_producer_new(s, "c", &p));
-    for (int first = 0; first < 2; first++) {
-        fails_to_create = true;
-        made_first = first;
-        answers(NO_MEMORY, tracerd_keeper_start(&k, s, dir, 1, 1, 1));
-        fails_to_create = false;
-        answers(NOT_DRAINING, tracerd_drainer_stop(s));
-        is(!k);
-    }
-    answers(OK, tracerd_drainer_start(s, 1));
-    answers(OK, tracerd_drainer_stop(s));
-    answers(OK, tracerd_keeper_start(&k, s, dir, 1, 1, 1));
-    answers(OK, tracerd_keeper_stop(k));
-    tracerd_free(s);
-    is(held == 0);
-}
-
 /* The drainer is slow at the second stream when a sub-buffer of the first is closed, and ends only after it has taken that. */
 static void drains_to_the_last(void) {
     tracerd_session *s;
@@ -285,8 +261,6 @@ int main(int count, char **words) {
     drains_to_the_last();
     counts_as_one();
     lies_apart();
-    counts_as_one();
-    keeps_with_threads(words[1]);
     counts_as_one();
     for (int lasting = 0; lasting < 2; lasting++) {
         for (void (*const *run)(const char *) = (void (*const[])(const char *)){records, shows, lends, tells, NULL}; *run;
