@@ -125,7 +125,7 @@ typedef enum tracerd_status {
     TRACERD_EVENT_TAKEN = 1006,      /* an event has this name or this id */
     TRACERD_TOO_MANY_DECLARED = 1007, /* more than 1,024 events, 32 fields, 524,288 bytes, or what no sub-buffer holds */
     TRACERD_BAD_VARIABLE = 1008,     /* of a variable: no name, or a word of CTF's language */
-    TRACERD_BAD_VALUE = 1009,        /* no value, one that can't stand in the metadata, or a vpid that is no number */
+    TRACERD_BAD_VALUE = 1009,        /* no value, one that the metadata can't have, or a vpid that is no number */
     TRACERD_VARIABLE_TAKEN = 1010,   /* a variable has this name */
     TRACERD_TOO_MANY_VARIABLES = 1011, /* more than 32 */
     TRACERD_HELD = 1202              /* an archive below this number isn't released */

@@ -198,7 +198,7 @@ impl Session {
     }
 
     /// Has archives say what was refused: records `offers_refused`, with the sums of their producer so far by why. Before the
-    /// start; it declares that event beside the program's, of which no line is told if it is refused (0).
+    /// start; it declares that event beside the program's, for which no line is named if it is refused (0).
     pub fn record_refused(&self) -> Result<(), Refused> {
         match unsafe { ffi::tracerd_record_refused(self.raw()) } {
             0 => Ok(()),

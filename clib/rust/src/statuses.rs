@@ -93,7 +93,7 @@ refusals! {
     TooManyDeclared = 1007,
     /// The status 1008 of `tracerd.h`, with the number of the first line that is refused: of a variable: no name, or a word of CTF's language.
     BadVariable = 1008,
-    /// The status 1009 of `tracerd.h`, with the number of the first line that is refused: no value, one that can't stand in the metadata, or a vpid that is no number.
+    /// The status 1009 of `tracerd.h`, with the number of the first line that is refused: no value, one that the metadata can't have, or a vpid that is no number.
     BadValue = 1009,
     /// The status 1010 of `tracerd.h`, with the number of the first line that is refused: a variable has this name.
     VariableTaken = 1010,
