@@ -86,7 +86,7 @@ fn takes_the_status_of_a_later_library() {
 
 #[test]
 fn forgets() {
-    let (session, producer) = planned();
+    let (session, mut producer) = planned();
     session.start(0).unwrap();
     producer.offer(1, 7, b"a").unwrap();
     assert_eq!((session.rotate(2), session.forget(1)), (Ok(0), Err(Refused::Held)));
