@@ -20,6 +20,11 @@ pub record IsPool (n : ℕ) (s : FreeState) : Type 0 where
 abbrev pub IsLent : ProducerState → FreeState → FreeState → Type 0
 IsLent producer before after = (before.free ≡ producer ∷ after.free) × (after.away ≡ before.away + 1)
 
+-- one that is given is of a stream whose producer is away
+pub record MayGive (producer : ProducerState) (s : FreeState) : Type 0 where
+  pub away : 0 < s.away
+  pub none : count_by (λ (p : ProducerState). p.number == producer.number) s.free ≡ 0
+
 -- after this one was given
 abbrev pub after_give : ProducerState → FreeState → FreeState
 after_give producer s = free_state (s.free ++ producer ∷ []) (s.away - 1)

@@ -1,7 +1,7 @@
 //! The producers that no thread has.
 
 ghost use Rattle.std.specs.Prelude.{◌≡◌, ◌<◌, ◌==◌, [], IfErr, IfOk, MatchOption, count_by, length};
-ghost use Rattle.tr_lends.specs.Free.{IsLent, IsPool, after_give, free_state};
+ghost use Rattle.tr_lends.specs.Free.{IsLent, IsPool, MayGive, after_give, free_state};
 ghost use Rattle.tr_seats.specs.Settling.{IsOneEach};
 ghost use Rattle.tr_seats.specs.Slots.{ProducerState};
 
@@ -60,8 +60,8 @@ impl<N: Names, A: Allocator> FreeProducers<N, A> {
     /// The producer, if none is away or one of its stream is free: nothing changed. There is no such one, since each stream has
     /// one producer.
     pub fn give(&mut self, producer: Producer<N, A>) -> Result<(), Producer<N, A>>
-        ensures taken { IfOk result (λ _. self.new ≡ after_give producer self.old) }
-        ensures refused { IfErr result (λ p. (p ≡ producer) × (self.new ≡ self.old)) }
+        ensures taken { IfOk result (λ _. (self.new ≡ after_give producer self.old) × MayGive producer self.old) }
+        ensures refused { IfErr result (λ p. (p ≡ producer) × (self.new ≡ self.old) × (¬ MayGive producer self.old)) }
         ensures pool { IsPool (length N.plan.books) self.new }
     {
         if count_of(&self.free, producer.stream()) > 0 {

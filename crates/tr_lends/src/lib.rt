@@ -23,9 +23,9 @@
 //! A lent producer is its thread's alone, as its type has it: each offer is one thread's, and waits for its stream's lock alone.
 //!
 //! - What is lent is given back or away: those that are free and those that are away are together as many as the session has
-//!   streams, and no two that are free are of one stream. The one is lent that has been free longest; one that is given comes
-//!   after all others, and is as it was given (`FreeProducers::new`; `lend`: `lent`, `pool` (`IsPool`); `give`: `taken`,
-//!   `refused`, `pool`; `ProducerPool::give`).
+//!   streams, and no two that are free are of one stream. The one is lent that has been free longest. One is taken if and only
+//!   if one is away and none of its stream is free; it comes after all others, as it was given (`FreeProducers::new`; `lend`:
+//!   `lent`, `pool` (`IsPool`); `give`: `taken`, `refused` (`MayGive`), `pool`; `ProducerPool::give`).
 //! - What comes out of a pool is one producer for each stream, so that settling isn't refused for a missing one
 //!   (`FreeProducers::into_producers`: `all`, `away`; `ProducerPool::into_producers`: `one_each` (`IsOneEach`)).
 //!
