@@ -89,6 +89,7 @@ static void clear(void) { must(tracerd_clear(session, &(uint64_t){0})); }
 static void tick(void) { must(tracerd_tick(session, 0, &(tracerd_cause){0}, &archive)); }
 static void count(void) { must(tracerd_counts_of(producer, &(tracerd_counts){0})); }
 static void release(void) { must(tracerd_release(session, archive)); }
+static void forget(void) { must(tracerd_forget(session, archive + 1)); }
 
 /* A folder of its own for each archive and snapshot: none is written over another. */
 static const char *own_folder(void) {
@@ -112,13 +113,13 @@ static const struct {
     const char *name;
     void (*call)(void);
     tracerd_kind kind;
-    int is_of_archive;
+    enum { OF_RING, OF_ARCHIVE, OF_RELEASED } of;
 } operations[] = {
-    {"take", take, TRACERD_LOCAL, 0},       {"rotation", rotate, TRACERD_LOCAL, 0},
-    {"clear", clear, TRACERD_LOCAL, 0},     {"snapshot", snapshot, TRACERD_SNAPSHOT, 0},
-    {"tick", tick, TRACERD_LOCAL, 0},       {"counts", count, TRACERD_LOCAL, 0},
-    {"fate", fate, TRACERD_LOCAL, 1},       {"write", write_archive, TRACERD_LOCAL, 1},
-    {"release", release, TRACERD_LOCAL, 1},
+    {"take", take, TRACERD_LOCAL, OF_RING},          {"rotation", rotate, TRACERD_LOCAL, OF_RING},
+    {"clear", clear, TRACERD_LOCAL, OF_RING},        {"snapshot", snapshot, TRACERD_SNAPSHOT, OF_RING},
+    {"tick", tick, TRACERD_LOCAL, OF_RING},          {"counts", count, TRACERD_LOCAL, OF_RING},
+    {"fate", fate, TRACERD_LOCAL, OF_ARCHIVE},       {"write", write_archive, TRACERD_LOCAL, OF_ARCHIVE},
+    {"release", release, TRACERD_LOCAL, OF_ARCHIVE}, {"forget", forget, TRACERD_LOCAL, OF_RELEASED},
 };
 
 static void print_holds(uint64_t count_of, uint64_t size, int rounds) {
@@ -127,7 +128,8 @@ static void print_holds(uint64_t count_of, uint64_t size, int rounds) {
         for (int round = 0; round < rounds; round++) {
             make_session(count_of, size, operations[i].kind);
             fill(size);
-            if (operations[i].is_of_archive) rotate();
+            if (operations[i].of != OF_RING) rotate();
+            if (operations[i].of == OF_RELEASED) release();
             longest = 0;
             watched = producer;
             operations[i].call();
