@@ -150,11 +150,11 @@ firsts-rise low (p ∷ ps) rise = go (firsts-rise (next_serial low p.records) ps
 -- ---- gaps
 
 -- a packet with the `lost` of the one before has its serials in a row
-pub in-row : (lost : ℕ) (ps : List Contents) (i : ℕ) (d : Contents) → GapsShow lost ps → i < length ps
+pub shown-in-row : (lost : ℕ) (ps : List Contents) (i : ℕ) (d : Contents) → GapsShow lost ps → i < length ps
     → (get_or ps i d).head.lost ≡ lost_before lost i ps → AreInRow (get_or ps i d).records
-in-row lost [] i d show within = absurd (omega (arith, within))
-in-row lost (p ∷ ps) zero d show within = show.0
-in-row lost (p ∷ ps) (suc i) d show within = in-row p.head.lost ps i d show.1 (grind (arith, common_steps, within))
+shown-in-row lost [] i d show within = absurd (omega (arith, within))
+shown-in-row lost (p ∷ ps) zero d show within = show.0
+shown-in-row lost (p ∷ ps) (suc i) d show within = shown-in-row p.head.lost ps i d show.1 (grind (arith, common_steps, within))
 
 pub lost-at : (lost : ℕ) (ps : List Contents) (i : ℕ) (d : Contents) → i < length ps
     → (get_or ps i d).head.lost ≡ lost_before lost (suc i) ps

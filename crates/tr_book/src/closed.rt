@@ -245,6 +245,7 @@ impl<A: Allocator + Copy> ClosedParts<A> {
         ensures same { (closed_of self.new ≡ closed_of self.old) × (starts_of self.new ≡ starts_of self.old) }
         ensures ok { OnOk result (forgotten_of self.new ≡ max k (forgotten_of self.old)) }
         ensures err { OnErr result (forgotten_of self.new ≡ forgotten_of self.old) }
+        ensures memory { OnErr result (forgotten_of self.old < k) }
     {
         if k <= self.forgotten() {
             return Ok(());

@@ -19,16 +19,17 @@
 //!   `release`: `ok`, `err`, `memory`; `release_out`: `packets`, `ok`, `err`, `memory`; `current`, `cuts`: `value`, `numbered`;
 //!   `Part::bytes`: `value`, `small`).
 //! - Closed parts that were released can be forgotten, the first ones: then `part` has none of them, and it is known how many
-//!   they are and where the part after them began; contracts go on to see them (`Parts::forget`: `ok`, `err`; `forgotten`:
-//!   `value`, `released` (`IsForgetful`); `known_from`; `part` (`part_known`)).
+//!   they are and where the part after them began; contracts go on to see them (`Parts::forget`: `ok`; `forgotten`: `value`,
+//!   `released` (`IsForgetful`); `known_from`; `part` (`part_known`)).
 //! - A packet's runs are as long as they can be and in order, and none goes over two packets. Of a packet that says no more was
 //!   lost than the one before it, they are known by its first record and its count (`Runs::push_records`, `push_packets`;
 //!   `push_known`, `push_by_lost`; `append`: `ok`, `err`; `of_packets`, `of_packets_by_lost`: `value`, `memory`).
 //! - By runs and parts it is known where a serial's record is or was, and which part was current at its offer (`Part::seq_of`,
 //!   `Run::has`, `Runs::seq_of`, `search` (`RunsRise`), `Parts::seq_cleared`, `place_of`).
-//! - A call for which an allocation fails, of a release only if the part has packets, leaves the parts as they were. Once parts
-//!   are ready (`ReadyParts`), adding packets and closing the current part take no memory; nor does adding one to a part that
-//!   was taken out for it (`Parts::ready`: `ok`, `err`; `take_current`: `part`, `ok`, `err`).
+//! - A call for which an allocation fails, of a release only if the part has packets, of a forget only if more parts are
+//!   forgotten than before, leaves the parts as they were. Once parts are ready (`ReadyParts`), adding packets and closing the
+//!   current part take no memory; nor does adding one to a part that was taken out for it (`Parts::forget`: `err`, `memory`;
+//!   `ready`: `ok`, `err`; `take_current`: `part`, `ok`, `err`).
 //! - The counters note what is offered, overwritten, consumed and cleared, and its moment (`Book::note_offer`,
 //!   `note_overwritten`, `note_consumed`, `note_moment`, `note_cleared`).
 //! - What a stream is seen to have has its packets, fewer than 2^64 records (`StreamSnap::new`; `packets`: `value`, `few`).

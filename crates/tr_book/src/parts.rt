@@ -222,6 +222,7 @@ impl<A: Allocator + Copy> Parts<A> {
         requires released { AreReleased (take k self.old.closed) }
         ensures ok { OnOk result (self.new ≡ forget_parts k self.old) }
         ensures err { OnErr result (self.new ≡ self.old) }
+        ensures memory { OnErr result (self.old.forgotten < k) }
     {
         self.closed.forget(k)?;
         Ok(())

@@ -33,11 +33,11 @@
 //!   the next one began the fate is `Forgotten`; all counts, and what is answered of other chunks and later offers, stay
 //!   (`Stream::forget`: `value`, `step` (`history_after_forget`), `no_memory`; `part`: `step` (`part_known_in`), `forgetful`;
 //!   `kept_part`).
-//! - Out of memory comes only if something waits (take), in a local session (cut), or with packets (clear, release), and
-//!   changes nothing. A page that a take or a cut moves into a part is replaced by a spare one, which may be handed in before;
-//!   no contract says how many pages move and how many are copied (`Stream::take`, `cut`, `clear`, `clear_out`, `release`,
-//!   `release_out`: `no_memory`, `memory`; `peek`, `peek_out`: `memory`; `Spares::make`: `ok`, `size`; `make_touched`,
-//!   `append`: `size`; `pop`: `page`, `left`, `size`).
+//! - Out of memory comes only if something waits (take), in a local session (cut), with packets (clear, release), or if more
+//!   chunks are forgotten than before (forget), and changes nothing. A page that a take or a cut moves into a part is replaced by
+//!   a spare one, which may be handed in before; no contract says how many pages move and how many are copied (`Stream::take`,
+//!   `cut`, `clear`, `clear_out`, `release`, `release_out`, `forget`: `no_memory`, `memory`; `peek`, `peek_out`: `memory`;
+//!   `Spares::make`: `ok`, `size`; `make_touched`, `append`: `size`; `pop`: `page`, `left`, `size`).
 //! - An offer takes no memory. Whether it is accepted depends on nothing but whether the stream takes offers, the payload's
 //!   length, and how many offers were accepted before, fewer than 2^62 (`Stream::offer`: `value`, `step`).
 //! - The same holds of every list of calls but forgets (`run_stream`: `config`, `stream`, `answers`; within the crate `step`:
@@ -63,9 +63,9 @@
 //!
 //! # What is only tested
 //!
-//! That a list of calls ends with "out of memory" only if an allocation failed, and so does a forget; and that a forget gives
-//! memory up. (The runs of what was cleared stay.) Tests add worked examples of each call, and 100,000 offers in each mode with
-//! no byte of memory left: none is refused or moves a byte of the heap, and a take after them is out of memory.
+//! That a list of calls ends with "out of memory" only if an allocation failed, and that a forget gives memory up. (The runs of
+//! what was cleared stay.) Tests add worked examples of each call, and 100,000 offers in each mode with no byte of memory left:
+//! none is refused or moves a byte of the heap, and a take after them is out of memory.
 #![tactic(auto)]
 
 mod answers;

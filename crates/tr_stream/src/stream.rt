@@ -426,6 +426,7 @@ impl<A: Allocator + Copy> Stream<A> {
             (result ≡ history_forget_answer k h)
             × StandsFor self.new (history_after_forget k h) }
         ensures no_memory { result ≡ Err ForgetFault.NoMemory → self.new ≡ self.old }
+        ensures memory { result ≡ Err ForgetFault.NoMemory → self.old.parts.forgotten < k }
         ensures config { self.new.config ≡ self.old.config }
     {
         match self.forget_refusal(k) {
@@ -439,6 +440,7 @@ impl<A: Allocator + Copy> Stream<A> {
         requires { state_forget_refusal k self.old ≡ None }
         ensures ok { OnOk result (self.new ≡ state_after_forget k self.old) }
         ensures err { OnErr result (self.new ≡ self.old) }
+        ensures memory { OnErr result (self.old.parts.forgotten < k) }
     {
         self.parts.forget(k)?;
         Ok(())

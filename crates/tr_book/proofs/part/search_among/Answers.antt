@@ -1,7 +1,7 @@
 use Rattle.std.proofs.Common.{rules, ◌≡◌, ◌∙◌, ◌-◌, ◌+◌, ◌<◌, Bool, true, false, length, None, Some, ap, arith, cond, get_or, leb, subst, sym}
 use Rattle.std.proofs.lemmas.Bool.Decides.{nat_tests}
 use Rattle.std.proofs.lemmas.List.Sorted.{IsPartitionPoint-from_clause, IsPartitionedBy-leb}
-use Rattle.tr_book.proofs.PacketLemmas.{Turns, firsts-rise, in-row, last-begins, none-begins}
+use Rattle.tr_book.proofs.PacketLemmas.{Turns, firsts-rise, shown-in-row, last-begins, none-begins}
 use Rattle.tr_book.proofs.part.search_among.Goals as goal
 use Rattle.tr_book.specs.Runs.{AreInRow, first_in, lost_before}
 use Rattle.tr_packet.specs.Packets.{Contents}
@@ -26,7 +26,7 @@ has_known-requires-clause-row g c = λ same.
     let within : i < length xs = omega (arith, c.if-after-eq0.false, c.partition_point-after.ensures.bound) in
     let equal : c.head-head.result.lost ≡ c.lost_before-lost.result = grind (arith, nat_tests, same) in
     let lost : (get_or xs i p).head.lost ≡ lost_before 0 i xs = search rules in
-    subst AreInRow (search rules) (in-row 0 xs i p c.requires.gaps within lost)
+    subst AreInRow (search rules) (shown-in-row 0 xs i p c.requires.gaps within lost)
 
 pub returns-then-has_known : goal.returns-then-has_known
 returns-then-has_known g c =
